@@ -3,12 +3,15 @@
 const places = {
   'bad byte': 'The language has no such sign. There is no `/`: write `div(a, 2)`. There is no `%`: write `mod(a, 2)`.',
   'number past limit': 'The largest number is 170141183460469231731687303715884105727.',
-  'syntax': 'No program goes on like this: the marked word stands in the wrong place, or something before it is missing. Write comparisons one at a ' +
-    'time, `0 < x && x < a`, compare with `==`, and give each `if` an `else`. Some words, such as `min` and `max`, cannot be names.',
+  'syntax': 'No program goes on like this: the marked word stands in the wrong place, or something before it is missing. Compare with `==`, and give ' +
+    'each `if` an `else`. A program with a chain, such as `0 < x < a`, begins with `comfusy 3`. Some words, such as `given`, cannot be names.',
   'unknown name': 'Nothing has this name here. Is it misspelled, or bound elsewhere?',
   'duplicate name': 'Two things would have one name here.',
   'wrong count': 'There are more or fewer values here than names or parameters for them.',
-  'type mismatch': 'This value has another type than what is needed here: a number, a truth value and a set are three things. Outputs are numbers or sets.',
+  'type mismatch': 'This value has another type than what is needed here: a number, a truth value and a set are three things.',
+  'not constant': 'Here stands a number that is known before the program runs: digits, a `const`, and sums, differences and products of these.',
+  'constant below 1': 'Only a constant of 1 or more divides.',
+  'constant past limit': 'The largest number is 170141183460469231731687303715884105727, also on the way to a constant.',
   'calls later function': 'A function calls those that stand above it. Put the one that is called first.',
   'not linear': 'A relation has no product of two unknown numbers, and no set written out but `{}`. If there are few values for one of the numbers, ' +
     'write a case for each. Where an input is the factor, `run` answers all the same.',

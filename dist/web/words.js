@@ -1,13 +1,17 @@
 export const words = {
  "keyword": [
   "def",
+  "const",
   "let",
   "in",
   "if",
   "then",
   "else",
   "choose",
+  "given",
   "where",
+  "minimise",
+  "maximise",
   "match",
   "with"
  ],
@@ -31,15 +35,15 @@ export const words = {
   "card",
   "div",
   "mod",
-  "abs"
+  "abs",
+  "min",
+  "max"
  ],
  "target": [
   "solve",
   "arm",
   "need",
   "give",
-  "min",
-  "max",
   "slice",
   "fresh",
   "neg",

@@ -42,11 +42,6 @@ def is_late(name: str) -> bool:
     return expectation(name, "err").exists()
 
 
-def is_built(name: str, kind: str) -> bool:
-    """Whether the command that writes this is built for the source: `check` is not, for those chooses of edition 3 of which nothing stands here."""
-    return kind != "check" or expectation(name, kind).exists()
-
-
 def text_of(path: Path) -> bytes:
     """What a file holds, nothing where it is missing."""
     return path.read_bytes() if path.exists() else b""

@@ -9,12 +9,14 @@
                                   `--stats`; and what all other commands on a source refuse the program for, as not linear
 
 In a table whose name begins with `steps` a row is STATUS, WRITTEN, STEPS, PROGRAM: what `verify` writes of the steps.
+In a table whose name begins with `verdicts` a row is VERDICTS, PROGRAM: how each line that `check` writes of a program begins, without samples.
 In a table whose name begins with `words` a row has a status and the words of a command line, each in a column: none is `-`. The files `source`,
 `target` and `steps` stand there. `2 silent` is a status 2 with nothing written, as for words that the system does not hand over.
 """
 
 from __future__ import annotations
 
+import re
 from collections.abc import Callable, Iterator
 from functools import partial
 from itertools import islice
@@ -87,6 +89,15 @@ def try_written(row: Row, room: Room) -> Iterator[Check]:
         yield try_verified(name, "file", text, room)
 
 
+def try_verdicts(row: Row, room: Room) -> Iterator[Check]:
+    verdicts, program = row.texts
+    room.put("file", program)
+    seen = room.run(("check", "file"), NO_INPUT)
+    lines = [re.sub(rb"( for |: (?!no |two |outputs |existence |uniqueness |covers |misses |coverage )).*", b"", line) for line in seen.out.splitlines()]
+    faults = () if seen.status == 0 and lines == verdicts.splitlines() else (f"status {seen.status}, wrote {seen.out!r} {seen.err!r}",)
+    yield Check(row.name(row.columns[-1]), faults)
+
+
 def try_steps(row: Row, room: Room) -> Iterator[Check]:
     _, text, steps, program = row.texts
     room.put("steps", steps)
@@ -112,6 +123,8 @@ def trial_of(row: Row) -> Callable[[Row, Room], Iterator[Check]]:
     """How a row of so many columns is tried in its table."""
     if row.table.startswith("words"):
         return try_words
+    if row.table.startswith("verdicts"):
+        return try_verdicts
     of_four = try_steps if row.table.startswith("steps") else partial(try_text, "exec" if row.table.startswith("targets") else "run")
     return {2: try_rule, 3: try_written, 4: of_four, 5: try_late}.get(len(row.columns), no_row)
 

@@ -16,7 +16,6 @@ from harness.refusals import status_of
 from .proofs import try_verified
 
 GIVEN = (".target", ".steps")
-NO_MEMORY = 12
 
 
 def try_example(name: str, room: Room) -> Iterator[Check]:
@@ -26,10 +25,7 @@ def try_example(name: str, room: Room) -> Iterator[Check]:
             yield try_refused(name, command, room)
         return
     for command, kind in KINDS.items():
-        if examples.is_built(name, kind):
-            yield try_command(name, command, examples.source(name), kind, room)
-        else:
-            yield ended(f"example {name}, {command}", room.run((command, examples.source(name)), NO_INPUT), NO_MEMORY, err=b"no memory\n")
+        yield try_command(name, command, examples.source(name), kind, room)
     yield try_command(name, "exec", expectation(name, "target"), "out", room)
     yield try_verified(f"example {name}", examples.source(name), text_of(expectation(name, "steps")), room)
 
@@ -62,7 +58,7 @@ def owed() -> Iterator[str]:
     """The files with what must be written on the sources that stand there."""
     for name in examples.names():
         yield f"{name}.out"
-        yield from [f"{name}.err"] if is_late(name) else [f"{name}.{kind}" for kind in KINDS.values() if examples.is_built(name, kind)]
+        yield from [f"{name}.err"] if is_late(name) else [f"{name}.{kind}" for kind in KINDS.values()]
     for name in examples.names("refused"):
         yield f"{name}.err"
     for name in examples.names("steps"):

@@ -142,17 +142,17 @@ abbrev of_no_arm : ChooseTree
 of_no_arm = record { number = 1; names = codes "a" ∷ codes "match" ∷ []; scope = Int ∷ Int ∷ []; outputs = Int ∷ []; relation = rel_false }
 
 two_lines : IsOwn one_match 7 → IsExistence some_choose.scope some_choose.outputs some_choose.relation existence.Always →
-    IsUniqueness some_choose.scope some_choose.outputs some_choose.relation uniqueness.Unique →
-    AreLines one_match some_choose (codes "choose 7: outputs always\nchoose 7: outputs unique\n")
+    IsUniqueness some_choose.scope some_choose.outputs 2 some_choose.relation uniqueness.Unique →
+    AreLines one_match [] some_choose (codes "choose 7: outputs always\nchoose 7: outputs unique\n")
 unfolding digits
-two_lines own e u = of_choose own existence.Always uniqueness.Unique e u
+two_lines own e u = of_choose own refl existence.Always uniqueness.Unique e u
 
-one_line_of_an_arm : IsUniqueness of_first_arm.scope of_first_arm.outputs of_first_arm.relation (uniqueness.Undecided Overflow) →
-    AreLines one_match of_first_arm (codes "choose 2: uniqueness undecided: overflow\n")
+one_line_of_an_arm : IsUniqueness of_first_arm.scope of_first_arm.outputs 1 of_first_arm.relation (uniqueness.Undecided Overflow) →
+    AreLines one_match [] of_first_arm (codes "choose 2: uniqueness undecided: overflow\n")
 unfolding digits
 one_line_of_an_arm u = of_arm _ there (0, omega arith, refl) (uniqueness.Undecided Overflow) u
 
 one_line_of_a_match : IsCover (Residue (pos 2) (pos 0) ∷ Point (pos 3) ∷ []) (cover.Misses (pos 5)) →
-    AreLines one_match of_no_arm (codes "match 1: misses 5\n")
+    AreLines one_match [] of_no_arm (codes "match 1: misses 5\n")
 unfolding digits
 one_line_of_a_match c = of_match _ there refl (cover.Misses (pos 5)) c

@@ -16,6 +16,7 @@ mod EndExamples
 mod Examples
 pub mod FaultLemmas
 pub mod FileLemmas
+pub mod FormedLemmas
 mod LateExamples
 pub mod LateLemmas
 mod LimitExamples
@@ -49,6 +50,8 @@ pub mod SumLemmas
 pub mod TargetLemmas
 mod TextExamples
 pub mod TextLemmas
+mod ToldExamples
+pub mod ToldLemmas
 pub mod VerifyLemmas
 pub mod WorkloadAccepted
 pub mod WorkloadLaw

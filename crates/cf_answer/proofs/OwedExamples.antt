@@ -1,20 +1,18 @@
 -- Worked examples: what each command owes on the texts of its files.
-use Rattle.std.proofs.Common.{◌≡◌, ◌⊎◌, ◌-◌, ◌^◌, ℕ, ℤ, true, false, Option, Some, None, List, [], ◌∷◌, length, inl, inr, refl, codes}
+use Rattle.std.proofs.Common.{◌≡◌, ◌⊎◌, ◌-◌, ◌^◌, ℕ, ℤ, true, false, List, [], ◌∷◌, length, inl, inr, refl, codes}
 use Rattle.std.specs.Prelude.{negsuc, flat_map}
 use Rattle.std.specs.Fmt.{digits}
 use Rattle.cf_gen.specs.Workload.{gen_source, gen_lines}
 use Rattle.cf_io.specs.Limits.{line_limit}
 use Rattle.cf_io.specs.Lines.{lines}
 use Rattle.cf_tree.specs.ChooseTree.{ChooseTree}
-use Rattle.cf_tree.specs.RelTree.{RelTree, rel_true}
-use Rattle.cf_tree.specs.declared.base.Base.{Base}
-use Rattle.cf_tree.specs.declared.base.Base.TheVariants.{Int, Bool as Truth, Set}
+use Rattle.cf_tree.specs.RelTree.{rel_true}
 use Rattle.cf_tree.specs.declared.base.Edition.TheVariants.{Two}
 use Rattle.cf_tree.specs.declared.target.RawTarget.{RawTarget}
 use Rattle.cf_lex.specs.Editions.{edition_of}
 use Rattle.cf_target.specs.Spelling.{target_tree}
 use Rattle.cf_program.specs.Checked.{TypedTree}
-use Rattle.cf_form.specs.Told.{ToldBranch, ToldChoose}
+use Rattle.cf_form.specs.Told.{ToldChoose}
 use Rattle.cf_eval.specs.Replies.{IsReply}
 use Rattle.cf_pass.specs.Passes.{Told, HaveTurned}
 use Rattle.cf_words.specs.declared.command.Flags.{Flags}
@@ -24,7 +22,7 @@ use Rattle.cf_answer.specs.Certificates.{asked_in, AreProofs, AreVerified, verif
 use Rattle.cf_answer.specs.LateReplies.{AreRunsAllowed}
 use Rattle.cf_answer.specs.Owed.{by_target, by_late, IsReplyBy, AllReplied, AreReplies, ArePicked, IsCompiledBy, OwesRun, compiled, late, IsPrinted, AllWritten, ArePres, AreChecks, IsSum, sum_line, Owes}
 use Rattle.cf_answer.specs.Passes.{applied}
-use Rattle.cf_answer.specs.Sources.{Compiles, IsTypedSource, is_as_before, AreAsked, IsAskedSource, IsLateSource, IsTypedTarget}
+use Rattle.cf_answer.specs.Sources.{Compiles, IsTypedSource, AreToldIn, AreToldOf, IsLateSource, IsTypedTarget}
 
 -- the same is owed
 abbrev Same : Type 0 → Type 0 → Type 0
@@ -54,7 +52,7 @@ module _ (name other source steps : List ℕ) (given last : List Told) (ls : Lis
   of-pre = (λ h. h, λ h. h)
 
   of-check : Same (Owes (check name) (source ∷ []) given last ls text)
-      (IsAskedSource source × (typed : TypedTree) × IsTypedSource source typed × AreChecks typed text)
+      ((told : List ToldChoose) × AreToldOf source told × (typed : TypedTree) × IsTypedSource source typed × AreChecks told typed text)
   of-check = (λ h. h, λ h. h)
 
   of-exec : Same (Owes (exec name) (source ∷ []) given last ls text)
@@ -136,27 +134,6 @@ last-line : sum_line 9 (negsuc 11) ≡ codes "lines 9 sum -12\n"
 unfolding digits
 last-line = refl
 
--- ---- which chooses are asked as those of language 2
-abbrev alone : Option RelTree → ToldBranch
-alone given = record { truths = []; relation = rel_true; given = given }
-
-abbrev told : List Base → ℕ → List ToldBranch → ToldChoose
-told outputs hidden branches = record { number = 1; outputs = outputs; hidden = hidden; parameters = []; branches = branches }
-
-asked-alike : is_as_before (told (Int ∷ Set ∷ []) 0 (alone None ∷ [])) ≡ true
-asked-alike = refl
-
-no-hidden : is_as_before (told (Int ∷ []) 1 (alone None ∷ [])) ≡ false
-no-hidden = refl
-
-no-truth : is_as_before (told (Int ∷ Truth ∷ []) 0 (alone None ∷ [])) ≡ false
-no-truth = refl
-
-no-condition : is_as_before (told (Int ∷ []) 0 (alone (Some rel_true) ∷ [])) ≡ false
-no-condition = refl
-
-no-branches : is_as_before (told (Int ∷ []) 0 (alone None ∷ alone None ∷ [])) ≡ false
-no-branches = refl
-
-asked-in_two : AreAsked Two []
-asked-in_two = tt
+-- ---- of which chooses something is told
+none-in_two : AreToldIn Two [] []
+none-in_two = refl

@@ -35,7 +35,7 @@ owed_accepted (compile flags name) (file ∷ []) given passes ls text h =
     λ f r. compiled_unrefused (applied (not flags.plain) given) (applied (not flags.plain) passes) file h.0 f h.1.0 r
 owed_accepted (run flags name) (file ∷ []) given passes ls text h = λ f r. run_unrefused (not flags.plain) file given passes ls text f h r
 owed_accepted (pre name) (file ∷ []) given passes ls text h = λ f r. pres_unrefused file h.0 text f h.1 h.2 r
-owed_accepted (check name) (file ∷ []) given passes ls text h = λ f r. checks_unrefused file h.1 text f h.2 h.3 r
+owed_accepted (check name) (file ∷ []) given passes ls text h = λ f r. checks_unrefused file h.0 h.2 text f h.3 h.4 r
 owed_accepted (exec name) (file ∷ []) given passes ls text h = λ f r. typed_unrefused file (target_tree h.0) f h.1 r
 owed_accepted (prove name) (file ∷ []) given passes ls text h = λ f r. proofs_unrefused file h.0 text f h.1 h.2 r
 owed_accepted (verify name other) (source ∷ steps ∷ []) given passes ls text h = λ f r. verify_unrefused source steps h.0 f h.1 h.2 r

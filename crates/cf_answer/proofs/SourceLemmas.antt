@@ -17,8 +17,9 @@ use Rattle.cf_tree.specs.ChooseTree.{ChooseTree}
 use Rattle.cf_build.specs.Chooses.{all_chooses, by_number, limit_of, IsFirstRefused}
 use Rattle.cf_build.proofs.ChooseLaws.{one_refusal, refused_has}
 use Rattle.cf_build.proofs.NumberOrder.{ordered_same}
-use Rattle.cf_match.specs.Matches.{all_matches}
-use Rattle.cf_answer.specs.Checks.{IsCheckOf}
+use Rattle.cf_match.specs.Matches.{MatchTree, all_matches}
+use Rattle.cf_form.specs.Told.{ToldChoose}
+use Rattle.cf_answer.specs.Checks.{AreChecksBehind}
 use Rattle.cf_answer.specs.Owed.{AllWritten, IsPreOf, ArePres, AreChecks}
 use Rattle.cf_answer.specs.Refusals.{IsBadProgram, unruly, refused, IsRefusedSource}
 use Rattle.cf_answer.specs.Sources.{SpellsProgram, IsTypedBy, IsTypedSource, Compiles}
@@ -73,6 +74,13 @@ compiled_unrefused given last text t f c h = typed_unrefused text c.0 f c.1 (λ 
 abbrev IsWithin : ChooseTree → Type 0
 IsWithin q = limit_of q ≡ None
 
+within_unrefused : (text : List ℕ) (typed : TypedTree) (f : Fault) → IsTypedSource text typed → All IsWithin (by_number (all_chooses typed.defs)) →
+    IsRefusedSource text f → ⊥
+within_unrefused text typed f s within h =
+    let qs = all_chooses typed.defs in
+    typed_unrefused text typed f s
+    (λ q m. All-contains IsWithin (by_number qs) q within (Contains-permutation qs (by_number qs) q (ordered_same qs) m)) h
+
 module _ (Is : ChooseTree → List ℕ → Type 0) (within : (q : ChooseTree) (text : List ℕ) → Is q text → IsWithin q) where
   written_within : (qs : List ChooseTree) (text : List ℕ) → AllWritten Is qs text → All IsWithin qs
   written_within [] text h = All-nil IsWithin
@@ -81,15 +89,18 @@ module _ (Is : ChooseTree → List ℕ → Type 0) (within : (q : ChooseTree) (t
   written_unrefused : (text : List ℕ) (typed : TypedTree) (written : List ℕ) (f : Fault) → IsTypedSource text typed →
       AllWritten Is (by_number (all_chooses typed.defs)) written → IsRefusedSource text f → ⊥
   written_unrefused text typed written f s owed h =
-      let qs = all_chooses typed.defs in
-      typed_unrefused text typed f s
-      (λ q m. All-contains IsWithin (by_number qs) q (written_within (by_number qs) written owed)
-      (Contains-permutation qs (by_number qs) q (ordered_same qs) m)) h
+      within_unrefused text typed f s (written_within (by_number (all_chooses typed.defs)) written owed) h
 
 pub pres_unrefused : (text : List ℕ) (typed : TypedTree) (pres : List ℕ) (f : Fault) → IsTypedSource text typed → ArePres typed pres → IsRefusedSource text f →
     ⊥
 pres_unrefused text typed pres f s owed h = written_unrefused IsPreOf (λ q t p. p.within) text typed pres f s owed h
 
-pub checks_unrefused : (text : List ℕ) (typed : TypedTree) (checks : List ℕ) (f : Fault) → IsTypedSource text typed → AreChecks typed checks →
-    IsRefusedSource text f → ⊥
-checks_unrefused text typed checks f s owed h = written_unrefused (IsCheckOf (all_matches typed.defs)) (λ q t p. p.within) text typed checks f s owed h
+checks_within : (ms : List MatchTree) (told : List ToldChoose) (before : ℕ) (qs : List ChooseTree) (text : List ℕ) → AreChecksBehind ms told before qs text →
+    All IsWithin qs
+checks_within ms told before [] text h = All-nil IsWithin
+checks_within ms told before (q ∷ qs) text h = All-cons IsWithin q qs h.3.within (checks_within ms told q.number qs h.1 h.4)
+
+pub checks_unrefused : (text : List ℕ) (told : List ToldChoose) (typed : TypedTree) (checks : List ℕ) (f : Fault) → IsTypedSource text typed →
+    AreChecks told typed checks → IsRefusedSource text f → ⊥
+checks_unrefused text told typed checks f s owed h =
+    within_unrefused text typed f s (checks_within (all_matches typed.defs) told 0 (by_number (all_chooses typed.defs)) checks owed) h

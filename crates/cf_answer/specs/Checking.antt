@@ -1,5 +1,5 @@
 -- What the numbers of chooses are of, and what is added for each; for the contracts within the crate.
-use Rattle.std.specs.Prelude.{◌≡◌, ℕ, List, ◌++◌, flat_map, All, Contains}
+use Rattle.std.specs.Prelude.{◌≡◌, ℕ, Option, Some, None, List, ◌++◌, length, map, flat_map, All, Contains}
 use Rattle.std.specs.List.Sorted.{IsNonDecreasingBy, IsPermutation}
 use Rattle.cf_tree.specs.RelView.{rel_tree}
 use Rattle.cf_match.specs.Matches.{MatchTree, match_tree}
@@ -7,16 +7,30 @@ use Rattle.cf_match.specs.declared.class.Class.{Class}
 use Rattle.cf_match.specs.declared.lowered.MatchInfo.{MatchInfo}
 use Rattle.cf_tree.specs.Params.{names_of}
 use Rattle.cf_tree.specs.ChooseTree.{ChooseTree}
+use Rattle.cf_tree.specs.Values.{Value}
+use Rattle.cf_choose.specs.declared.fault.ChooseFault.{ChooseFault}
+use Rattle.cf_choose.specs.declared.fault.ChooseFault.TheVariants as faults
+use Rattle.cf_choose.specs.declared.solved.SolvedParts.{SolvedParts}
+use Rattle.cf_form.specs.Told.{ToldChoose}
+use Rattle.cf_form.specs.ToldView.{told_choose, truth_at}
+use Rattle.cf_form.specs.declared.told.TruthAt.{TruthAt}
 use Rattle.cf_build.specs.Solves.{IsSolved}
 use Rattle.cf_build.specs.declared.solves.SolvedChoose.{SolvedChoose}
 use Rattle.cf_warn.specs.Classes.{AreClasses}
 use Rattle.cf_warn.specs.Covers.{IsCover}
 use Rattle.cf_warn.specs.Verdicts.{IsExistence, IsUniqueness}
+use Rattle.cf_warn.specs.declared.answer.Doubt.TheVariants.{Refused}
 use Rattle.cf_warn.specs.declared.answer.ExistenceAnswer.{ExistenceAnswer}
+use Rattle.cf_warn.specs.declared.answer.ExistenceAnswer.TheVariants as existence
 use Rattle.cf_warn.specs.declared.answer.UniquenessAnswer.{UniquenessAnswer}
+use Rattle.cf_warn.specs.declared.answer.UniquenessAnswer.TheVariants as uniqueness
 use Rattle.cf_warn.specs.declared.coverage.Cover.{Cover}
-use Rattle.cf_answer.specs.Checks.{IsMatch, IsArm, IsOwn, IsCheckOf, cover_line, existence_text, names_at, uniqueness_text}
+use Rattle.cf_answer.specs.Checks.{IsMatch, IsArm, IsOwn, AreLines, IsCheckBehind, asked_of, cover_line, told_existence_line, told_uniqueness_line, existence_text, names_at, uniqueness_text}
 use Rattle.cf_answer.specs.Texts.{numbered_line}
+use Rattle.cf_answer.specs.ToldChecks.{Asked, named_sample, IsToldExistence, IsToldUniqueness}
+use Rattle.cf_answer.specs.declared.told_check.Asked.{Asked as DeclaredAsked}
+use Rattle.cf_answer.specs.declared.told_check.Telling.{Telling}
+use Rattle.cf_answer.specs.declared.told_check.Telling.TheVariants.{Nothing, Told}
 use Rattle.cf_answer.specs.declared.choose_origin.Origin.{Origin}
 use Rattle.cf_answer.specs.declared.choose_origin.Origin.TheVariants.{Choose, Arm, Match}
 
@@ -41,12 +55,53 @@ AddsExistence s levels old new =
 
 abbrev pub AddsUniqueness : SolvedChoose → List ℕ → List ℕ → List ℕ → Type 0
 AddsUniqueness s levels old new =
-    (u : UniquenessAnswer) × IsUniqueness s.solved.scope.items s.solved.outputs.items (rel_tree s.solved.rel) u
+    (u : UniquenessAnswer)
+    × IsUniqueness s.solved.scope.items s.solved.outputs.items (length s.solved.outputs.items) (rel_tree s.solved.rel) u
     × (new ≡ old ++ numbered_line s.choose.number (uniqueness_text (names_at (names_of s.choose.scope.now) levels) u))
 
 abbrev pub AddsCover : ℕ → List Class → List ℕ → List ℕ → Type 0
 AddsCover n classes old new = (c : Cover) × IsCover classes c × (new ≡ old ++ cover_line n c)
 
 -- the lines of a choose were added
-abbrev pub AddsCheck : List MatchTree → SolvedChoose → List ℕ → List ℕ → Type 0
-AddsCheck matches s old new = (q : ChooseTree) → IsSolved q s → (more : List ℕ) × (new ≡ old ++ more) × IsCheckOf matches q more
+abbrev pub AddsCheck : List MatchTree → List ToldChoose → SolvedChoose → List ℕ → List ℕ → Type 0
+AddsCheck matches told s old new = (q : ChooseTree) → IsSolved q s → (more : List ℕ) × (new ≡ old ++ more) × AreLines matches told q more
+
+-- the same of one behind a choose of number `before`
+abbrev pub AddsCheckBehind : List MatchTree → List ToldChoose → ℕ → SolvedChoose → List ℕ → List ℕ → Type 0
+AddsCheckBehind matches told before s old new =
+    (q : ChooseTree) → IsSolved q s → (more : List ℕ) × (new ≡ old ++ more) × IsCheckBehind matches told before q more
+
+-- the lines of a choose of which this is told were added
+abbrev pub AddsTold : SolvedChoose → ToldChoose → List ℕ → List ℕ → Type 0
+AddsTold s c old new =
+    (q : ChooseTree) → IsSolved q s →
+    (e : ExistenceAnswer) × (u : UniquenessAnswer) × IsToldExistence (asked_of q c) c e × IsToldUniqueness (asked_of q c) c u
+    × (new ≡ old ++ (told_existence_line q c e ++ told_uniqueness_line q c u))
+
+-- ---- chooses that are told of
+abbrev pub asked_view : DeclaredAsked → Asked
+asked_view a = record { scope = a.scope.now; outputs = a.outputs.now; shown = a.shown.now; levels = a.levels.now }
+
+abbrev pub telling_view : Telling → Option ToldChoose
+telling_view Nothing = None
+telling_view (Told c) = Some (told_choose c.now)
+
+-- the verdicts of a solved relation
+abbrev pub IsExistenceOf : SolvedParts → ExistenceAnswer → Type 0
+IsExistenceOf s e = IsExistence s.scope.items s.outputs.items (rel_tree s.rel) e
+
+abbrev pub IsUniquenessOf : SolvedParts → ℕ → UniquenessAnswer → Type 0
+IsUniquenessOf s shown u = IsUniqueness s.scope.items s.outputs.items shown (rel_tree s.rel) u
+
+-- that a question which is refused is not decided
+abbrev pub IsRefusedExistence : ChooseFault → ExistenceAnswer → Type 0
+IsRefusedExistence (faults.Refused r) e = e ≡ existence.Undecided (Refused r)
+IsRefusedExistence faults.NoMemory e = ⊥
+
+abbrev pub IsRefusedUniqueness : ChooseFault → UniquenessAnswer → Type 0
+IsRefusedUniqueness (faults.Refused r) u = u ≡ uniqueness.Undecided (Refused r)
+IsRefusedUniqueness faults.NoMemory u = ⊥
+
+-- what a sample of it names in a branch
+abbrev pub named_by : DeclaredAsked → List TruthAt → SolvedParts → List Value → List Value
+named_by a truths s = named_sample a.scope.now a.levels.now (map truth_at truths) (rel_tree s.rel)

@@ -1,5 +1,5 @@
 -- What `check` writes of the chooses of a program.
-use Rattle.std.specs.Prelude.{◌≡◌, ℕ, List, [], ◌∷◌, ◌++◌, map, get_or, codes, decimal, None, Contains}
+use Rattle.std.specs.Prelude.{◌≡◌, ℕ, Bool, true, false, List, [], ◌∷◌, ◌++◌, length, map, get_or, codes, decimal, Some, None, Contains}
 use Rattle.std.specs.List.{concat}
 use Rattle.std.specs.Fmt.{signed_decimal}
 use Rattle.cf_tree.specs.Values.{Value}
@@ -8,6 +8,7 @@ use Rattle.cf_tree.specs.ChooseTree.{ChooseTree}
 use Rattle.cf_build.specs.Chooses.{limit_of}
 use Rattle.cf_eval.specs.Seen.{plains}
 use Rattle.cf_eval.specs.Texts.{value_text, values_text}
+use Rattle.cf_form.specs.Told.{ToldChoose}
 use Rattle.cf_warn.specs.Questions.{parameters}
 use Rattle.cf_warn.specs.Covers.{IsCover}
 use Rattle.cf_warn.specs.Verdicts.{IsExistence, IsUniqueness}
@@ -21,6 +22,7 @@ use Rattle.cf_warn.specs.declared.coverage.Cover.{Cover}
 use Rattle.cf_warn.specs.declared.coverage.Cover.TheVariants as cover
 use Rattle.cf_late.specs.Texts.{refusal_text}
 use Rattle.cf_answer.specs.Texts.{numbered_line}
+use Rattle.cf_answer.specs.ToldChecks.{Asked, named_levels, told_of, is_later_branch, IsToldExistence, IsToldUniqueness}
 
 -- ---- verdicts
 -- why a question is not decided
@@ -73,6 +75,16 @@ existence_line q e = numbered_line q.number (existence_text (parameter_names q) 
 abbrev pub uniqueness_line : ChooseTree → UniquenessAnswer → List ℕ
 uniqueness_line q u = numbered_line q.number (uniqueness_text (parameter_names q) u)
 
+-- what is asked of a choose that is told of, by the scope and the outputs of its branches
+abbrev pub asked_of : ChooseTree → ToldChoose → Asked
+asked_of q c = record { scope = q.scope; outputs = q.outputs; shown = c.outputs; levels = named_levels (length q.scope) c }
+
+abbrev pub told_existence_line : ChooseTree → ToldChoose → ExistenceAnswer → List ℕ
+told_existence_line q c e = numbered_line q.number (existence_text (names_at q.names (named_levels (length q.scope) c)) e)
+
+abbrev pub told_uniqueness_line : ChooseTree → ToldChoose → UniquenessAnswer → List ℕ
+told_uniqueness_line q c u = numbered_line q.number (uniqueness_text (names_at q.names (named_levels (length q.scope) c)) u)
+
 abbrev pub cover_line : ℕ → Cover → List ℕ
 cover_line n c = concat (codes "match " ∷ decimal n ∷ codes ": " ∷ cover_text c ∷ codes "\n" ∷ [])
 
@@ -88,15 +100,32 @@ IsArm m n = Contains m.arms n
 abbrev pub IsOwn : List MatchTree → ℕ → Type 0
 IsOwn matches n = (m : MatchTree) → Contains matches m → (IsMatch m n → ⊥) × (IsArm m n → ⊥)
 
--- The lines of a choose, by what its number is of: a choose of the source, an arm of one of these matches, or one of the matches.
-pub data AreLines (matches : List MatchTree) (q : ChooseTree) : List ℕ → Type 0 where
-  of_choose : IsOwn matches q.number → (e : ExistenceAnswer) → (u : UniquenessAnswer) → IsExistence q.scope q.outputs q.relation e →
-      IsUniqueness q.scope q.outputs q.relation u → AreLines matches q (existence_line q e ++ uniqueness_line q u)
-  of_arm : (m : MatchTree) → Contains matches m → IsArm m q.number → (u : UniquenessAnswer) → IsUniqueness q.scope q.outputs q.relation u →
-      AreLines matches q (uniqueness_line q u)
-  of_match : (m : MatchTree) → Contains matches m → IsMatch m q.number → (c : Cover) → IsCover m.classes c → AreLines matches q (cover_line q.number c)
+-- The lines of a choose, by what its number is of: a choose of the source, of which nothing or this is told, an arm of one of these matches, or one of the
+-- matches.
+pub data AreLines (matches : List MatchTree) (told : List ToldChoose) (q : ChooseTree) : List ℕ → Type 0 where
+  of_choose : IsOwn matches q.number → told_of told q.number ≡ None → (e : ExistenceAnswer) → (u : UniquenessAnswer) →
+      IsExistence q.scope q.outputs q.relation e → IsUniqueness q.scope q.outputs (length q.outputs) q.relation u →
+      AreLines matches told q (existence_line q e ++ uniqueness_line q u)
+  of_told : IsOwn matches q.number → (c : ToldChoose) → told_of told q.number ≡ Some c → (e : ExistenceAnswer) → (u : UniquenessAnswer) →
+      IsToldExistence (asked_of q c) c e → IsToldUniqueness (asked_of q c) c u →
+      AreLines matches told q (told_existence_line q c e ++ told_uniqueness_line q c u)
+  of_arm : (m : MatchTree) → Contains matches m → IsArm m q.number → (u : UniquenessAnswer) →
+      IsUniqueness q.scope q.outputs (length q.outputs) q.relation u → AreLines matches told q (uniqueness_line q u)
+  of_match : (m : MatchTree) → Contains matches m → IsMatch m q.number → (c : Cover) → IsCover m.classes c → AreLines matches told q (cover_line q.number c)
 
--- a choose passes no limit, and these are its lines
-pub record IsCheckOf (matches : List MatchTree) (q : ChooseTree) (text : List ℕ) : Type 0 where
+-- later branches of a choose that is told of have no lines of their own
+abbrev pub AreLinesBy : Bool → List MatchTree → List ToldChoose → ChooseTree → List ℕ → Type 0
+AreLinesBy true matches told q text = text ≡ []
+AreLinesBy false matches told q text = AreLines matches told q text
+
+-- a choose behind one of number `before` passes no limit, and these are its lines
+pub record IsCheckBehind (matches : List MatchTree) (told : List ToldChoose) (before : ℕ) (q : ChooseTree) (text : List ℕ) : Type 0 where
   pub within : limit_of q ≡ None
-  pub lines : AreLines matches q text
+  pub lines : AreLinesBy (is_later_branch told before q.number) matches told q text
+
+-- the lines of chooses in order, behind one of number `before`
+abbrev pub AreChecksBehind : List MatchTree → List ToldChoose → ℕ → List ChooseTree → List ℕ → Type 0
+AreChecksBehind matches told before [] text = text ≡ []
+AreChecksBehind matches told before (q ∷ qs) text =
+    (first : List ℕ) × (more : List ℕ) × (text ≡ first ++ more) × IsCheckBehind matches told before q first
+    × AreChecksBehind matches told q.number qs more

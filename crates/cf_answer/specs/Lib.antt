@@ -17,5 +17,6 @@ pub mod Sources
 pub mod Statuses
 pub mod Steps
 pub mod Texts
+pub mod ToldChecks
 pub mod Verifying
 pub mod Workloads

@@ -10,6 +10,7 @@ use Rattle.cf_tree.specs.declared.base.Edition.{Edition}
 use Rattle.cf_tree.specs.declared.target.RawTarget.{RawTarget}
 use Rattle.cf_target.specs.Spelling.{target_tree}
 use Rattle.cf_program.specs.Checked.{TypedTree}
+use Rattle.cf_form.specs.Told.{ToldChoose}
 use Rattle.cf_choose.specs.Precondition.{all_needs, IsPrecondition}
 use Rattle.cf_match.specs.Matches.{all_matches}
 use Rattle.cf_tree.specs.ChooseTree.{ChooseTree}
@@ -21,11 +22,11 @@ use Rattle.cf_pass.specs.Passes.{Told}
 use Rattle.cf_words.specs.Commands.{Command, compile, run, pre, check, exec, prove, verify, gen, help, version}
 use Rattle.cf_answer.specs.About.{help_text, version_text}
 use Rattle.cf_answer.specs.Certificates.{asked_in, AreProofs, AreVerified, verified_line}
-use Rattle.cf_answer.specs.Checks.{IsCheckOf}
+use Rattle.cf_answer.specs.Checks.{AreChecksBehind}
 use Rattle.cf_answer.specs.LateReplies.{IsLateReply, AreRunsAllowed}
 use Rattle.cf_answer.specs.Passes.{AreCalled, applied}
 use Rattle.cf_answer.specs.Picked.{IsSourceReply, adds}
-use Rattle.cf_answer.specs.Sources.{Compiles, IsTypedSource, IsAskedSource, IsLateSource, IsTypedTarget}
+use Rattle.cf_answer.specs.Sources.{Compiles, IsTypedSource, AreToldOf, IsLateSource, IsTypedTarget}
 
 -- what answers the lines of the input: a target, or a late program
 pub data Answerer : Type 0 where
@@ -81,9 +82,14 @@ AllWritten Is (q ∷ qs) text = (first : List ℕ) × (more : List ℕ) × (text
 abbrev pub ArePres : TypedTree → List ℕ → Type 0
 ArePres typed text = AllWritten IsPreOf (by_number (all_chooses typed.defs)) text
 
--- the lines of its chooses and matches, in the order of their numbers
-abbrev pub AreChecks : TypedTree → List ℕ → Type 0
-AreChecks typed text = AllWritten (IsCheckOf (all_matches typed.defs)) (by_number (all_chooses typed.defs)) text
+-- the lines of its chooses, of which this is told, and of its matches, in the order of their numbers, which are at least 1
+abbrev pub AreChecks : List ToldChoose → TypedTree → List ℕ → Type 0
+AreChecks told typed text = AreChecksBehind (all_matches typed.defs) told 0 (by_number (all_chooses typed.defs)) text
+
+-- the lines of the chooses and matches of a source
+abbrev pub AreSourceChecks : List ℕ → List ℕ → Type 0
+AreSourceChecks source text =
+    (told : List ToldChoose) × AreToldOf source told × (typed : TypedTree) × IsTypedSource source typed × AreChecks told typed text
 
 -- the sum of the replies of the target, which its program picks, where so many passes have rewritten it
 abbrev pub IsSum : RawTarget → TypedTree → ℕ → List (List ℕ) → ℤ → Type 0
@@ -103,7 +109,7 @@ Owes (compile flags name) (file ∷ []) given last ls text =
     (t : RawTarget) × IsCompiledBy (not flags.plain) file given last t × IsPrinted (edition_of file) t text
 Owes (run flags name) (file ∷ []) given last ls text = OwesRun (not flags.plain) file given last ls text
 Owes (pre name) (file ∷ []) given last ls text = (typed : TypedTree) × IsTypedSource file typed × ArePres typed text
-Owes (check name) (file ∷ []) given last ls text = IsAskedSource file × (typed : TypedTree) × IsTypedSource file typed × AreChecks typed text
+Owes (check name) (file ∷ []) given last ls text = AreSourceChecks file text
 Owes (exec name) (file ∷ []) given last ls text = (t : RawTarget) × IsTypedTarget file (target_tree t) × AreReplies (by_target t) ls text
 Owes (prove name) (file ∷ []) given last ls text = (typed : TypedTree) × IsTypedSource file typed × AreProofs (asked_in typed) text
 Owes (verify name steps_name) (source ∷ steps ∷ []) given last ls text =

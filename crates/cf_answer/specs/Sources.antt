@@ -1,6 +1,5 @@
 -- What a text spells, and the target that a source is compiled to.
-use Rattle.std.specs.Prelude.{◌≡◌, ◌==◌, ℕ, ◌-◌, ◌^◌, ◌≤◌, Bool, false, ◌&&◌, IsTrue, List, [], ◌∷◌, length, map, is_none, Ok, Err, All}
-use Rattle.std.specs.List.{list_all}
+use Rattle.std.specs.Prelude.{◌≡◌, ℕ, ◌-◌, ◌^◌, ◌≤◌, List, [], length, map, Ok, Err, All}
 use Rattle.std.specs.List.Sorted.{IsPermutation}
 use Rattle.cf_lex.specs.declared.token.Token.{Token}
 use Rattle.cf_lex.specs.Editions.{edition_of}
@@ -19,9 +18,8 @@ use Rattle.cf_program.specs.declared.linearity.Linearity.{Linearity}
 use Rattle.cf_program.specs.declared.linearity.Linearity.TheVariants.{Plain, Late}
 use Rattle.cf_program.specs.declared.fault.TypeFault.TheVariants.{NotLinear}
 use Rattle.cf_program.specs.Lowered.{lowered_def}
-use Rattle.cf_program.specs.Walk.{is_output}
 use Rattle.cf_form.specs.FormAnswers.{IsFormOf}
-use Rattle.cf_form.specs.Told.{ToldBranch, ToldChoose, all_told}
+use Rattle.cf_form.specs.Told.{ToldChoose, all_told}
 use Rattle.cf_match.specs.Matches.{all_matches, match_tree}
 use Rattle.cf_match.specs.declared.lowered.LoweredParts.{LoweredParts}
 use Rattle.cf_build.specs.Built.{IsBuilt}
@@ -57,23 +55,13 @@ pub record IsLoweredSource (text : List ℕ) (l : LoweredParts) : Type 0 where
   pub matches : IsPermutation (all_matches typed.defs) (map match_tree l.matches.items)
   pub classes : All (λ m. AreClasses m.classes.items) l.matches.items
 
--- one branch, without a condition
-abbrev pub is_alone : List ToldBranch → Bool
-is_alone [] = false
-is_alone (b ∷ []) = is_none b.given
-is_alone (b ∷ c ∷ bs) = false
+-- what is told of the chooses of a program: in edition 3 of each choose of the source, in language 2 of none, since there each is as it stands
+abbrev pub AreToldIn : Edition → List RawItemTree → List ToldChoose → Type 0
+AreToldIn Two program told = told ≡ []
+AreToldIn Three program told = (source : TypedTree) × (checked Three Plain program ≡ Ok source) × (told ≡ all_told source.defs)
 
--- whether a choose is as one of language 2: it gives out all its outputs, of which none is a truth value, has no condition, and is one in all branches
-abbrev pub is_as_before : ToldChoose → Bool
-is_as_before c = (c.hidden == 0) && list_all is_output c.outputs && is_alone c.branches
-
--- the questions of `check` are those of language 2; of edition 3 they are asked where each choose of the source is as one of language 2
-abbrev pub AreAsked : Edition → List RawItemTree → Type 0
-AreAsked Two program = Unit {0}
-AreAsked Three program = (source : TypedTree) × (checked Three Plain program ≡ Ok source) × IsTrue (list_all is_as_before (all_told source.defs))
-
-abbrev pub IsAskedSource : List ℕ → Type 0
-IsAskedSource text = (program : List RawItemTree) × SpellsProgram text program × AreAsked (edition_of text) program
+abbrev pub AreToldOf : List ℕ → List ToldChoose → Type 0
+AreToldOf text told = (program : List RawItemTree) × SpellsProgram text program × AreToldIn (edition_of text) program told
 
 -- a program whose first broken rule is that on linear relations, and which breaks none where the numbers in scope of a choose are known
 abbrev pub IsCheckedLate : Edition → List RawItemTree → TypedTree → Type 0

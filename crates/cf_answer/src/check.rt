@@ -1,9 +1,9 @@
 //! `check`: whether outputs of the chooses of a source always exist and are the only ones, and whether matches cover all numbers.
-ghost use Rattle.std.specs.Prelude.{◌≡◌, ◌≤◌, ◌<◌, ◌-◌, ◌^◌, ◌∷◌, [], ◌++◌, List, ℕ, length, map, All, Contains, IfOk, OnOk};
+ghost use Rattle.std.specs.Prelude.{◌≡◌, ◌≤◌, ◌<◌, ◌-◌, ◌^◌, ◌∷◌, [], ◌++◌, List, ℕ, length, map, All, Contains, IfOk, OnOk, None};
 ghost use Rattle.std.specs.List.Sorted.{IsNonDecreasingBy};
 ghost use Rattle.cf_io.specs.Seen.{SourceSeen};
 ghost use Rattle.cf_lex.specs.Editions.{edition_of as the_edition_of};
-ghost use Rattle.cf_tree.specs.declared.base.Edition.TheVariants.{Three};
+ghost use Rattle.cf_tree.specs.declared.base.Edition.TheVariants.{Two, Three};
 ghost use Rattle.cf_pass.specs.Passes.{Told};
 ghost use Rattle.cf_words.specs.Commands.{check as the_check};
 ghost use Rattle.cf_answer.specs.Ends.{AnswersOn};
@@ -11,27 +11,32 @@ ghost use Rattle.cf_answer.specs.Limits.{text_limit};
 ghost use Rattle.cf_answer.specs.Outside.{streams};
 ghost use Rattle.cf_answer.specs.Statuses.{status_of as the_status_of, IsEarly};
 ghost use Rattle.cf_tree.specs.Params.{names_of};
+ghost use Rattle.cf_form.specs.Told.{ToldChoose};
+ghost use Rattle.cf_form.specs.ToldView.{told_choose};
 ghost use Rattle.cf_match.specs.Matches.{MatchTree, match_tree};
 ghost use Rattle.cf_tree.specs.ChooseTree.{ChooseTree};
 ghost use Rattle.cf_build.specs.Solves.{AreSolved};
 ghost use Rattle.cf_warn.specs.Classes.{AreClasses};
-ghost use Rattle.cf_answer.specs.Checking.{AreMatches, AddsCheck, AddsCover, AddsExistence, AddsUniqueness};
-ghost use Rattle.cf_answer.specs.Checks.{IsArm, IsCheckOf, IsMatch, IsOwn, cover_line, existence_text, names_at, uniqueness_text};
-ghost use Rattle.cf_answer.specs.Owed.{AllWritten, AreChecks};
-ghost use Rattle.cf_answer.specs.Refusals.{IsBrokenSource, IsRefusedSource};
-ghost use Rattle.cf_answer.specs.Sources.{IsAskedSource, IsLoweredSource};
+ghost use Rattle.cf_answer.specs.Checking.{AreMatches, AddsCheck, AddsCheckBehind, AddsCover, AddsExistence, AddsTold, AddsUniqueness};
+ghost use Rattle.cf_answer.specs.Checks.{AreChecksBehind, IsArm, IsMatch, IsOwn, cover_line, existence_text, names_at, uniqueness_text};
+ghost use Rattle.cf_answer.specs.Owed.{AreChecks, AreSourceChecks};
+ghost use Rattle.cf_answer.specs.Refusals.{IsRefusedSource};
+ghost use Rattle.cf_answer.specs.Sources.{IsLoweredSource};
 ghost use Rattle.cf_answer.specs.Steps.{IsVerdict};
 ghost use Rattle.cf_answer.specs.Texts.{numbered_line};
+ghost use Rattle.cf_answer.specs.ToldChecks.{is_later_branch as is_later_branch_of, told_of as the_told_of};
 
-use crate::asked::are_as_before;
 use crate::choose_line::put_head;
 use crate::choose_origin::{Matches, Origin, arms_of, origin_of};
 use crate::fault::Fault;
 use crate::source::{read_formed, read_lowered};
-use crate::unbuilt::not_built;
+use crate::told_check::{
+    Asked, Telling, is_told, named_levels, told_existence, told_of, told_uniqueness,
+};
 use crate::verdict::{put_cover, put_existence, put_uniqueness};
 use crate::write::write_text;
 use cf_build::{SolvedChoose, solve_all};
+use cf_form::ChooseInfo;
 use cf_io::Sink;
 use cf_lex::edition_of;
 use cf_match::{Lowered, MatchInfo, lower};
@@ -102,7 +107,7 @@ fn check_uniqueness(
 ) -> Result<(), NoMemory>
     ensures { OnOk result (AddsUniqueness choose.now levels.now text.old.items text.new.items) }
 {
-    let answer = uniqueness(alloc, &choose.solved)?;
+    let answer = uniqueness(alloc, &choose.solved, choose.solved.outputs().len())?;
     put_uniqueness_line(text, choose, levels, &answer)
 }
 
@@ -121,20 +126,60 @@ fn check_cover(
     Ok(())
 }
 
-// Adds the lines of a choose of the source.
+// Adds the lines of a choose of the source of which nothing is told.
 fn check_choose(
     alloc: Global,
-    matches: &Matches<'_>,
     choose: &SolvedChoose<'_>,
     text: &mut Vec<u8>,
 ) -> Result<(), NoMemory>
-    requires { IsOwn (map match_tree matches.now.infos.now) choose.now.choose.number }
-    ensures { OnOk result (AddsCheck (map match_tree matches.now.infos.now) choose.now text.old.items text.new.items) }
+    ensures { OnOk result ((matches : List MatchTree) (told : List ToldChoose) → IsOwn matches choose.now.choose.number →
+        the_told_of told choose.now.choose.number ≡ None → AddsCheck matches told choose.now text.old.items text.new.items) }
 {
     let levels = parameters(alloc, &choose.solved)?;
     check_existence(alloc, choose, &levels, text)?;
     check_uniqueness(alloc, choose, &levels, text)?;
     Ok(())
+}
+
+// Adds the lines of a choose of the source of which this is told.
+#[tactic(auto, using(crate::proofs::CheckLemmas::told_added))]
+fn check_told(
+    alloc: Global,
+    choose: &SolvedChoose<'_>,
+    info: &ChooseInfo,
+    text: &mut Vec<u8>,
+) -> Result<(), NoMemory>
+    ensures { OnOk result (AddsTold choose.now (told_choose info.now) text.old.items text.new.items) }
+{
+    let scope = choose.solved.scope();
+    let levels = named_levels(alloc, scope.len(), info)?;
+    let asked = Asked {
+        scope,
+        outputs: choose.solved.outputs(),
+        shown: &info.outputs,
+        levels: &levels,
+    };
+    let exists = told_existence(alloc, &asked, &info.branches)?;
+    put_existence_line(text, choose, &levels, &exists)?;
+    let unique = told_uniqueness(alloc, &asked, &info.branches)?;
+    put_uniqueness_line(text, choose, &levels, &unique)
+}
+
+// Adds the lines of a choose of the source, by what is told of it.
+#[tactic(auto, using(crate::proofs::CheckLemmas::told_checked))]
+fn check_own(
+    alloc: Global,
+    told: &[ChooseInfo],
+    choose: &SolvedChoose<'_>,
+    text: &mut Vec<u8>,
+) -> Result<(), NoMemory>
+    ensures { OnOk result ((matches : List MatchTree) → IsOwn matches choose.now.choose.number →
+        AddsCheck matches (map told_choose told.now) choose.now text.old.items text.new.items) }
+{
+    match told_of(told, choose.choose.number) {
+        Telling::Told(info) => check_told(alloc, choose, info, text),
+        Telling::Nothing => check_choose(alloc, choose, text),
+    }
 }
 
 // Adds the line of an arm.
@@ -145,7 +190,7 @@ fn check_arm(
     text: &mut Vec<u8>,
 ) -> Result<(), NoMemory>
     requires { (m : MatchTree) × Contains (map match_tree matches.now.infos.now) m × IsArm m choose.now.choose.number }
-    ensures { OnOk result (AddsCheck (map match_tree matches.now.infos.now) choose.now text.old.items text.new.items) }
+    ensures { OnOk result ((told : List ToldChoose) → AddsCheck (map match_tree matches.now.infos.now) told choose.now text.old.items text.new.items) }
 {
     let levels = parameters(alloc, &choose.solved)?;
     check_uniqueness(alloc, choose, &levels, text)
@@ -162,7 +207,7 @@ fn check_match(
     requires among { Contains (map match_tree matches.now.infos.now) (match_tree info.now) }
     requires number { IsMatch (match_tree info.now) choose.now.choose.number }
     requires classes { AreClasses info.now.classes.items }
-    ensures { OnOk result (AddsCheck (map match_tree matches.now.infos.now) choose.now text.old.items text.new.items) }
+    ensures { OnOk result ((told : List ToldChoose) → AddsCheck (map match_tree matches.now.infos.now) told choose.now text.old.items text.new.items) }
 {
     check_cover(alloc, choose.choose.number, info, text)?;
     Ok(())
@@ -172,32 +217,61 @@ fn check_match(
 fn check_number(
     alloc: Global,
     matches: &Matches<'_>,
+    told: &[ChooseInfo],
     choose: &SolvedChoose<'_>,
     text: &mut Vec<u8>,
 ) -> Result<(), NoMemory>
     requires { AreMatches matches.now.infos.now matches.now.arms.now }
-    ensures { OnOk result (AddsCheck (map match_tree matches.now.infos.now) choose.now text.old.items text.new.items) }
+    ensures { OnOk result (AddsCheck (map match_tree matches.now.infos.now) (map told_choose told.now) choose.now text.old.items text.new.items) }
 {
     match origin_of(matches, choose.choose.number) {
-        Origin::Choose => check_choose(alloc, matches, choose, text),
+        Origin::Choose => check_own(alloc, told, choose, text),
         Origin::Arm => check_arm(alloc, matches, choose, text),
         Origin::Match(info) => check_match(alloc, matches, info, choose, text),
     }
+}
+
+// Adds the lines of a choose behind one of number `before`; a later branch of that has none.
+#[tactic(auto, using(crate::proofs::CheckLemmas::later_checked, crate::proofs::CheckLemmas::first_checked))]
+fn check_next(
+    alloc: Global,
+    matches: &Matches<'_>,
+    told: &[ChooseInfo],
+    before: u32,
+    choose: &SolvedChoose<'_>,
+    text: &mut Vec<u8>,
+) -> Result<(), NoMemory>
+    requires { AreMatches matches.now.infos.now matches.now.arms.now }
+    ensures { OnOk result (AddsCheckBehind (map match_tree matches.now.infos.now) (map told_choose told.now) before choose.now text.old.items text.new.items) }
+{
+    if is_later_branch(told, before, choose.choose.number) {
+        return Ok(());
+    }
+    check_number(alloc, matches, told, choose, text)
+}
+
+fn is_later_branch(told: &[ChooseInfo], before: u32, number: u32) -> bool
+    ensures { result ≡ is_later_branch_of (map told_choose told.now) before number }
+{
+    number == before && is_told(told, number)
 }
 
 // The lines of solved chooses in order.
 fn check_each(
     alloc: Global,
     matches: &Matches<'_>,
+    told: &[ChooseInfo],
     chooses: &[SolvedChoose<'_>],
 ) -> Result<Vec<u8>, NoMemory>
     requires { AreMatches matches.now.infos.now matches.now.arms.now }
     ensures { IfOk result (λ text. (qs : List ChooseTree) → AreSolved qs chooses.now →
-        AllWritten (IsCheckOf (map match_tree matches.now.infos.now)) qs text.items) }
+        AreChecksBehind (map match_tree matches.now.infos.now) (map told_choose told.now) 0 qs text.items) }
 {
     let mut text = Vec::new(alloc);
+    let mut before: u32 = 0;
     for choose in chooses {
-        check_number(alloc, matches, choose, &mut text)?;
+        check_next(alloc, matches, told, before, choose, &mut text)?;
+        before = choose.choose.number;
     }
     Ok(text)
 }
@@ -206,55 +280,67 @@ fn check_each(
 fn lines(
     alloc: Global,
     infos: &[MatchInfo],
+    told: &[ChooseInfo],
     chooses: &[SolvedChoose<'_>],
 ) -> Result<Vec<u8>, NoMemory>
     requires order { IsNonDecreasingBy (λ m. m.number) infos.now }
     requires classes { All (λ m. AreClasses m.classes.items) infos.now }
-    ensures { IfOk result (λ text. (qs : List ChooseTree) → AreSolved qs chooses.now → AllWritten (IsCheckOf (map match_tree infos.now)) qs text.items) }
+    ensures { IfOk result (λ text. (qs : List ChooseTree) → AreSolved qs chooses.now →
+        AreChecksBehind (map match_tree infos.now) (map told_choose told.now) 0 qs text.items) }
 {
     let arms = arms_of(alloc, infos)?;
-    check_each(alloc, &Matches { infos, arms: &arms }, chooses)
+    check_each(alloc, &Matches { infos, arms: &arms }, told, chooses)
 }
 
-// The lines of the chooses and matches of a program in the order of their numbers, or the choose for
-// which it is refused.
-fn checks(alloc: Global, lowered: &Lowered) -> Result<Vec<u8>, Fault>
+// The lines of the chooses and matches of a program in the order of their numbers, where this is told of
+// its chooses, or the choose for which it is refused.
+fn checks(alloc: Global, lowered: &Lowered, told: &[ChooseInfo]) -> Result<Vec<u8>, Fault>
     requires { All (λ m. AreClasses m.classes.items) lowered.now.matches.items }
-    ensures { (source : List ℕ) (s : IsLoweredSource source lowered.now) → IsVerdict (λ text. AreChecks s.typed text.items) (IsRefusedSource source) result }
+    ensures { (source : List ℕ) (s : IsLoweredSource source lowered.now) →
+        IsVerdict (λ text. AreChecks (map told_choose told.now) s.typed text.items) (IsRefusedSource source) result }
 {
     let chooses = solve_all(alloc, lowered.typed())?;
-    let text = lines(alloc, lowered.matches(), &chooses)?;
+    let text = lines(alloc, lowered.matches(), told, &chooses)?;
     Ok(text)
 }
 
-// The program of which the questions are asked that are those of language 2.
-fn asked(alloc: Global, text: &[u8]) -> Result<Lowered, Fault>
+// The lines of a source of language 2, of whose chooses nothing is told.
+fn checks_in_two(alloc: Global, text: &[u8]) -> Result<Vec<u8>, Fault>
     requires short { length text.now ≤ text_limit }
     requires place { length text.now < 2 ^ 32 - 1 }
-    ensures { IsVerdict (λ l. IsAskedSource text.now × IsLoweredSource text.now l) (IsBrokenSource text.now) result }
+    requires edition { the_edition_of text.now ≡ Two }
+    ensures { IsVerdict (λ checks. AreSourceChecks text.now checks.items) (IsRefusedSource text.now) result }
 {
-    match edition_of(text) {
-        Edition::Two => read_lowered(alloc, text),
-        Edition::Three => asked_in_three(alloc, text),
-    }
+    let lowered = read_lowered(alloc, text)?;
+    let text = checks(alloc, &lowered, &[])?;
+    Ok(text)
 }
 
-// The same of edition 3, where each choose is as one of language 2.
-fn asked_in_three(alloc: Global, text: &[u8]) -> Result<Lowered, Fault>
+// The lines of a source of edition 3.
+fn checks_in_three(alloc: Global, text: &[u8]) -> Result<Vec<u8>, Fault>
     requires short { length text.now ≤ text_limit }
     requires place { length text.now < 2 ^ 32 - 1 }
     requires edition { the_edition_of text.now ≡ Three }
-    ensures { IsVerdict (λ l. IsAskedSource text.now × IsLoweredSource text.now l) (IsBrokenSource text.now) result }
+    ensures { IsVerdict (λ checks. AreSourceChecks text.now checks.items) (IsRefusedSource text.now) result }
 {
     let formed = read_formed(alloc, text)?;
-    if !are_as_before(formed.chooses()) {
-        return Err(not_built());
-    }
-    let typed = formed.into_typed();
+    let typed = formed.typed();
     // for the proof: the rules of a typed program are told by its methods alone.
     let _ = typed.main();
-    let lowered = lower(alloc, &typed)?;
-    Ok(lowered)
+    let lowered = lower(alloc, typed)?;
+    let text = checks(alloc, &lowered, formed.chooses())?;
+    Ok(text)
+}
+
+fn checks_of(alloc: Global, text: &[u8]) -> Result<Vec<u8>, Fault>
+    requires short { length text.now ≤ text_limit }
+    requires place { length text.now < 2 ^ 32 - 1 }
+    ensures { IsVerdict (λ checks. AreSourceChecks text.now checks.items) (IsRefusedSource text.now) result }
+{
+    match edition_of(text) {
+        Edition::Two => checks_in_two(alloc, text),
+        Edition::Three => checks_in_three(alloc, text),
+    }
 }
 
 /// Writes for each choose of a source text whether outputs always exist and whether they are the only
@@ -266,7 +352,6 @@ pub fn write_checks<O: Sink>(alloc: Global, text: &[u8], out: &mut O) -> Result<
         (streams input (O.seen out.old)) (streams input (O.seen out.new)) result }
     ensures unwritten { IsEarly (the_status_of result) → out.new ≡ out.old }
 {
-    let lowered = asked(alloc, text)?;
-    let text = checks(alloc, &lowered)?;
+    let text = checks_of(alloc, text)?;
     write_text(out, &text)
 }

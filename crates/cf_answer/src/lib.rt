@@ -3,7 +3,6 @@
 
 mod about;
 mod answerer;
-mod asked;
 mod check;
 mod choose_line;
 mod choose_origin;
@@ -28,7 +27,7 @@ mod sum;
 mod tallies;
 mod telling;
 mod text;
-mod unbuilt;
+mod told_check;
 mod verdict;
 mod verify;
 mod write;

@@ -1,11 +1,12 @@
 -- Worked questions of small chooses, their runs, and what these say.
-use Rattle.std.proofs.Common.{◌≡◌, pos, negsuc, refl, [], ◌∷◌, Some, None, arith}
+use Rattle.std.proofs.Common.{◌≡◌, ◌∙◌, ap, sym, pos, negsuc, refl, List, [], ◌∷◌, take, Some, None, arith}
 use Rattle.cf_tree.specs.declared.base.Base.TheVariants.{Int, Bool, Set}
 use Rattle.cf_tree.specs.declared.base.Order.TheVariants.{Eq, Ne, Ge}
 use Rattle.cf_tree.specs.Meaning.{means, peak}
 use Rattle.cf_tree.specs.RelTree.{empty_set, set_var, union_of, inter_of, diff_of, term_lit, term_var, term_card, term_neg, term_add, term_sub, term_mul, term_div, term_mod, term_abs}
 use Rattle.cf_tree.specs.RelTree.{RelTree, rel_true, rel_false, rel_compare, rel_same_set, rel_other_set, rel_subset, rel_divides, rel_and, rel_or, rel_not}
-use Rattle.cf_tree.specs.Values.{number, elements, values, no_solution}
+use Rattle.cf_tree.specs.Relation.{Sol}
+use Rattle.cf_tree.specs.Values.{Value, number, number_of, elements, values, no_solution}
 use Rattle.cf_num.specs.Divisors.{gcd_by, factors_by}
 use Rattle.cf_num.specs.Parts.{parts_of}
 use Rattle.cf_linear.specs.declared.refusal.LimitKind.TheVariants.{Cases}
@@ -58,39 +59,39 @@ forms-at = refl
 abbrev pub three : RelTree
 three = rel_compare Eq (term_var 0) (term_lit (pos 3))
 
-three-twice : twice [] (Int ∷ []) three ≡
+three-twice : twice [] (Int ∷ []) 1 three ≡
     rel_and (rel_compare Eq (term_var 0) (term_lit (pos 3)))
     (rel_and (rel_compare Eq (term_var 1) (term_lit (pos 3))) (rel_compare Ne (term_var 0) (term_var 1)))
 three-twice = refl
 
-pub three-limit : limit [] (twice_outputs [] (Int ∷ []) three) (twice [] (Int ∷ []) three) ≡ None
+pub three-limit : limit [] (twice_outputs [] (Int ∷ []) three) (twice [] (Int ∷ []) 1 three) ≡ None
 unfolding arms arm first_systems disjuncts system_of_case write_atom run run_for stage clean_stage equation_stage bound_stage unknown_stage row_stage clean mix
     factors_of merge merge_passes merge_factor last pick searched dropped searched_by bound bound_passes bound_factor gcd_by factors_by parts_of limit
     refusal_by case_count written_passes first_refused
 three-limit = refl
 
-pub three-run : means (question_code (twice_outputs [] (Int ∷ []) three) (twice [] (Int ∷ []) three)) [] ≡ no_solution 1
+pub three-run : means (question_code (twice_outputs [] (Int ∷ []) three) (twice [] (Int ∷ []) 1 three)) [] ≡ no_solution 1
 unfolding arms arm first_systems disjuncts system_of_case write_atom run run_for stage clean_stage equation_stage bound_stage unknown_stage row_stage clean mix
     factors_of merge merge_passes merge_factor last pick searched dropped searched_by bound bound_passes bound_factor gcd_by factors_by parts_of
 three-run = refl
 
-three-unrefused : IsUnrefused [] (twice_outputs [] (Int ∷ []) three) (twice [] (Int ∷ []) three)
+three-unrefused : IsUnrefused [] (twice_outputs [] (Int ∷ []) three) (twice [] (Int ∷ []) 1 three)
 three-unrefused = record {
-  typed = twice_typed [] (Int ∷ []) three (refl, omega arith) one_output;
-  linear = twice_linear [] (Int ∷ []) three (refl, omega arith) one_output (tt, tt);
+  typed = twice_typed [] (Int ∷ []) three (refl, omega arith) one_output 1;
+  linear = twice_linear [] (Int ∷ []) three (refl, omega arith) one_output 1 (tt, tt);
   are_outputs = twice_are_outputs [] (Int ∷ []) three (refl, omega arith) one_output;
   within = three-limit;
 }
 
-pub three-peak : peak (question_code (twice_outputs [] (Int ∷ []) three) (twice [] (Int ∷ []) three)) [] ≡ 1
+pub three-peak : peak (question_code (twice_outputs [] (Int ∷ []) three) (twice [] (Int ∷ []) 1 three)) [] ≡ 1
 unfolding arms arm first_systems disjuncts system_of_case write_atom run run_for stage clean_stage equation_stage bound_stage unknown_stage row_stage clean mix
     factors_of merge merge_passes merge_factor last pick searched dropped searched_by bound bound_passes bound_factor gcd_by factors_by parts_of
 three-peak = refl
 
-pub three-unique : AreUnique [] (Int ∷ []) three
+pub three-unique : AreUnique [] (Int ∷ []) 1 three
 three-unique =
-    unique [] (Int ∷ []) three (refl, omega arith) one_output
-    (question_none (twice_outputs [] (Int ∷ []) three) (twice [] (Int ∷ []) three) 1 three-unrefused three-run)
+    unique [] (Int ∷ []) 1 three (refl, omega arith) one_output
+    (question_none (twice_outputs [] (Int ∷ []) three) (twice [] (Int ∷ []) 1 three) 1 three-unrefused three-run)
 
 -- ---- a number from a parameter on, where a truth value that does not occur is in scope: two outputs at the sample -1
 abbrev pub above : RelTree
@@ -99,59 +100,84 @@ above = rel_compare Ge (term_var 2) (term_var 1)
 above-outputs : twice_outputs (Bool ∷ Int ∷ []) (Int ∷ []) above ≡ Int ∷ Int ∷ Int ∷ []
 above-outputs = refl
 
-above-twice : twice (Bool ∷ Int ∷ []) (Int ∷ []) above ≡
+above-twice : twice (Bool ∷ Int ∷ []) (Int ∷ []) 1 above ≡
     rel_and (rel_compare Ge (term_var 1) (term_var 0)) (rel_and (rel_compare Ge (term_var 2) (term_var 0)) (rel_compare Ne (term_var 1) (term_var 2)))
 above-twice = refl
 
-pub above-run : means (question_code (twice_outputs (Bool ∷ Int ∷ []) (Int ∷ []) above) (twice (Bool ∷ Int ∷ []) (Int ∷ []) above)) [] ≡
+pub above-run : means (question_code (twice_outputs (Bool ∷ Int ∷ []) (Int ∷ []) above) (twice (Bool ∷ Int ∷ []) (Int ∷ []) 1 above)) [] ≡
     values (number (negsuc 0) ∷ number (negsuc 0) ∷ number (pos 0) ∷ [])
 unfolding arms arm first_systems disjuncts system_of_case write_atom run run_for stage clean_stage equation_stage bound_stage unknown_stage row_stage clean mix
     factors_of merge merge_passes merge_factor last pick searched dropped searched_by bound bound_passes bound_factor gcd_by factors_by parts_of
 above-run = refl
 
-pub above-limit : limit [] (twice_outputs (Bool ∷ Int ∷ []) (Int ∷ []) above) (twice (Bool ∷ Int ∷ []) (Int ∷ []) above) ≡ None
+pub above-limit : limit [] (twice_outputs (Bool ∷ Int ∷ []) (Int ∷ []) above) (twice (Bool ∷ Int ∷ []) (Int ∷ []) 1 above) ≡ None
 unfolding arms arm first_systems disjuncts system_of_case write_atom run run_for stage clean_stage equation_stage bound_stage unknown_stage row_stage clean mix
     factors_of merge merge_passes merge_factor last pick searched dropped searched_by bound bound_passes bound_factor gcd_by factors_by parts_of limit
     refusal_by case_count written_passes first_refused
 above-limit = refl
 
-pub above-peak : peak (question_code (twice_outputs (Bool ∷ Int ∷ []) (Int ∷ []) above) (twice (Bool ∷ Int ∷ []) (Int ∷ []) above)) [] ≡ 1
+pub above-peak : peak (question_code (twice_outputs (Bool ∷ Int ∷ []) (Int ∷ []) above) (twice (Bool ∷ Int ∷ []) (Int ∷ []) 1 above)) [] ≡ 1
 unfolding arms arm first_systems disjuncts system_of_case write_atom run run_for stage clean_stage equation_stage bound_stage unknown_stage row_stage clean mix
     factors_of merge merge_passes merge_factor last pick searched dropped searched_by bound bound_passes bound_factor gcd_by factors_by parts_of
 above-peak = refl
 
-above-unrefused : IsUnrefused [] (twice_outputs (Bool ∷ Int ∷ []) (Int ∷ []) above) (twice (Bool ∷ Int ∷ []) (Int ∷ []) above)
+above-unrefused : IsUnrefused [] (twice_outputs (Bool ∷ Int ∷ []) (Int ∷ []) above) (twice (Bool ∷ Int ∷ []) (Int ∷ []) 1 above)
 above-unrefused = record {
-  typed = twice_typed (Bool ∷ Int ∷ []) (Int ∷ []) above (refl, refl) one_output;
-  linear = twice_linear (Bool ∷ Int ∷ []) (Int ∷ []) above (refl, refl) one_output (tt, tt);
+  typed = twice_typed (Bool ∷ Int ∷ []) (Int ∷ []) above (refl, refl) one_output 1;
+  linear = twice_linear (Bool ∷ Int ∷ []) (Int ∷ []) above (refl, refl) one_output 1 (tt, tt);
   are_outputs = twice_are_outputs (Bool ∷ Int ∷ []) (Int ∷ []) above (refl, refl) one_output;
   within = above-limit;
 }
 
-pub above-two : AreTwo (Bool ∷ Int ∷ []) (Int ∷ []) above (number (negsuc 0) ∷ []) (number (negsuc 0) ∷ []) (number (pos 0) ∷ [])
+pub above-two : AreTwo (Bool ∷ Int ∷ []) (Int ∷ []) 1 above (number (negsuc 0) ∷ []) (number (negsuc 0) ∷ []) (number (pos 0) ∷ [])
 above-two =
-    two_values (Bool ∷ Int ∷ []) (Int ∷ []) above (refl, refl) one_output (number (negsuc 0) ∷ []) (number (negsuc 0) ∷ []) (number (pos 0) ∷ []) refl refl
-    (question_solution (twice_outputs (Bool ∷ Int ∷ []) (Int ∷ []) above) (twice (Bool ∷ Int ∷ []) (Int ∷ []) above)
+    two_values (Bool ∷ Int ∷ []) (Int ∷ []) 1 above (refl, refl) one_output (number (negsuc 0) ∷ []) (number (negsuc 0) ∷ []) (number (pos 0) ∷ []) refl refl
+    (question_solution (twice_outputs (Bool ∷ Int ∷ []) (Int ∷ []) above) (twice (Bool ∷ Int ∷ []) (Int ∷ []) 1 above)
     (number (negsuc 0) ∷ number (negsuc 0) ∷ number (pos 0) ∷ []) above-unrefused above-run)
 
 -- ---- two numbers: the copies differ in one of them
 abbrev both : RelTree
 both = rel_compare Eq (term_var 0) (term_var 1)
 
-both-twice : twice [] (Int ∷ Int ∷ []) both ≡
+both-twice : twice [] (Int ∷ Int ∷ []) 2 both ≡
     rel_and (rel_compare Eq (term_var 0) (term_var 1)) (rel_and (rel_compare Eq (term_var 2) (term_var 3))
     (rel_or (rel_compare Ne (term_var 0) (term_var 2)) (rel_compare Ne (term_var 1) (term_var 3))))
 both-twice = refl
+
+-- the second is hidden: the copies differ in the first
+both-shown : twice [] (Int ∷ Int ∷ []) 1 both ≡
+    rel_and (rel_compare Eq (term_var 0) (term_var 1)) (rel_and (rel_compare Eq (term_var 2) (term_var 3)) (rel_compare Ne (term_var 0) (term_var 2)))
+both-shown = refl
+
+-- 3 and any number: unique where the second is hidden, and two outputs where both are shown
+three-shown : means (question_code (twice_outputs [] (Int ∷ Int ∷ []) three) (twice [] (Int ∷ Int ∷ []) 1 three)) [] ≡ no_solution 1
+unfolding arms arm first_systems disjuncts system_of_case write_atom run run_for stage clean_stage equation_stage bound_stage unknown_stage row_stage clean mix
+    factors_of merge merge_passes merge_factor last pick searched dropped searched_by bound bound_passes bound_factor gcd_by factors_by parts_of
+three-shown = refl
+
+three-both : means (question_code (twice_outputs [] (Int ∷ Int ∷ []) three) (twice [] (Int ∷ Int ∷ []) 2 three)) [] ≡
+    values (number (pos 3) ∷ number (negsuc 0) ∷ number (pos 3) ∷ number (pos 0) ∷ [])
+unfolding arms arm first_systems disjuncts system_of_case write_atom run run_for stage clean_stage equation_stage bound_stage unknown_stage row_stage clean mix
+    factors_of merge merge_passes merge_factor last pick searched dropped searched_by bound bound_passes bound_factor gcd_by factors_by parts_of
+three-both = refl
+
+three-first : (xs : List Value) → Sol (Int ∷ Int ∷ []) three [] xs → take 1 xs ≡ number (pos 3) ∷ []
+three-first [] s = absurd s.0
+three-first (v ∷ xs) s = let (z, is) = s.0.0 in ap (λ w. w ∷ []) (is ∙ ap number (sym (ap number_of is) ∙ s.1))
+
+three-and-any : AreUnique [] (Int ∷ Int ∷ []) 1 three
+three-and-any [] xs ys have p q = three-first xs p ∙ sym (three-first ys q)
+three-and-any (v ∷ vs) xs ys have p q = absurd have
 
 -- ---- subsets of a set
 abbrev parts : RelTree
 parts = rel_subset (set_var 1) (set_var 0)
 
-parts-twice : twice (Set ∷ []) (Set ∷ []) parts ≡
+parts-twice : twice (Set ∷ []) (Set ∷ []) 1 parts ≡
     rel_and (rel_subset (set_var 1) (set_var 0)) (rel_and (rel_subset (set_var 2) (set_var 0)) (rel_other_set (set_var 1) (set_var 2)))
 parts-twice = refl
 
-parts-run : means (question_code (twice_outputs (Set ∷ []) (Set ∷ []) parts) (twice (Set ∷ []) (Set ∷ []) parts)) [] ≡
+parts-run : means (question_code (twice_outputs (Set ∷ []) (Set ∷ []) parts) (twice (Set ∷ []) (Set ∷ []) 1 parts)) [] ≡
     values (elements (pos 0 ∷ []) ∷ elements (pos 0 ∷ []) ∷ elements [] ∷ [])
 unfolding arms arm first_systems disjuncts system_of_case write_atom run run_for stage clean_stage equation_stage bound_stage unknown_stage row_stage clean mix
     factors_of merge merge_passes merge_factor last pick searched dropped searched_by bound bound_passes bound_factor gcd_by factors_by parts_of
@@ -162,19 +188,19 @@ abbrev pub not_few : RelTree
 not_few = rel_and (rel_and (rel_and (rel_and (rel_compare Ne (term_var 0) (term_lit (pos 0))) (rel_compare Ne (term_var 0) (term_lit (pos 1))))
     (rel_compare Ne (term_var 0) (term_lit (pos 2)))) (rel_compare Ne (term_var 0) (term_lit (pos 3)))) (rel_compare Ne (term_var 0) (term_lit (pos 4)))
 
-pub not_few-limit : limit [] (twice_outputs [] (Int ∷ []) not_few) (twice [] (Int ∷ []) not_few) ≡ Some (Limit Cases 2048)
+pub not_few-limit : limit [] (twice_outputs [] (Int ∷ []) not_few) (twice [] (Int ∷ []) 1 not_few) ≡ Some (Limit Cases 2048)
 unfolding limit refusal_by case_count
 not_few-limit = refl
 
 abbrev pub most : RelTree
 most = rel_compare Ge (term_var 0) (term_lit (pos 170141183460469231731687303715884105727))
 
-pub most-run : peak (question_code (twice_outputs [] (Int ∷ []) most) (twice [] (Int ∷ []) most)) [] ≡ 170141183460469231731687303715884105728
+pub most-run : peak (question_code (twice_outputs [] (Int ∷ []) most) (twice [] (Int ∷ []) 1 most)) [] ≡ 170141183460469231731687303715884105728
 unfolding arms arm first_systems disjuncts system_of_case write_atom run run_for stage clean_stage equation_stage bound_stage unknown_stage row_stage clean mix
     factors_of merge merge_passes merge_factor last pick searched dropped searched_by bound bound_passes bound_factor gcd_by factors_by parts_of
 most-run = refl
 
-pub most-limit : limit [] (twice_outputs [] (Int ∷ []) most) (twice [] (Int ∷ []) most) ≡ None
+pub most-limit : limit [] (twice_outputs [] (Int ∷ []) most) (twice [] (Int ∷ []) 1 most) ≡ None
 unfolding arms arm first_systems disjuncts system_of_case write_atom run run_for stage clean_stage equation_stage bound_stage unknown_stage row_stage clean mix
     factors_of merge merge_passes merge_factor last pick searched dropped searched_by bound bound_passes bound_factor gcd_by factors_by parts_of limit
     refusal_by case_count written_passes first_refused

@@ -44,11 +44,11 @@ have_split (b ∷ bs) cs [] ws e h = absurd (omega arith)
 have_split (b ∷ bs) cs (v ∷ vs) ws e h = let r = have_split bs cs vs ws (omega arith) h.1 in ((h.0, r.0), r.1)
 
 -- ---- the question `twice`
-module _ (scope outputs : List Base) (rel : RelTree) (typed : IsTyped (scope ++ outputs) rel) (are_outputs : All IsOutput outputs) where
-  -- no solution of the question: solutions are the only ones
-  pub unique : ((vs : List Value) → Sol (twice_outputs scope outputs rel) (twice scope outputs rel) [] vs → ⊥) → AreUnique scope outputs rel
+module _ (scope outputs : List Base) (shown : ℕ) (rel : RelTree) (typed : IsTyped (scope ++ outputs) rel) (are_outputs : All IsOutput outputs) where
+  -- no solution of the question: solutions are the only ones in what is shown
+  pub unique : ((vs : List Value) → Sol (twice_outputs scope outputs rel) (twice scope outputs shown rel) [] vs → ⊥) → AreUnique scope outputs shown rel
   unique unsolved env xs ys have p q =
-      elim (same_or_twice scope outputs rel typed are_outputs env xs ys have p.0 q.0 p.1 q.1) [
+      elim (same_or_twice scope outputs rel typed are_outputs env xs ys have p.0 q.0 shown p.1 q.1) [
         | inl e ↦ e
         | inr h ↦ absurd (unsolved (map (value_at env) (parameters scope rel) ++ (xs ++ ys)) (
           have_append (parameter_bases scope rel) (outputs ++ outputs) (map (value_at env) (parameters scope rel)) (xs ++ ys) (have_sample scope rel env have)
@@ -59,20 +59,20 @@ module _ (scope outputs : List Base) (rel : RelTree) (typed : IsTyped (scope ++ 
 
   -- a solution of the question: two different solutions at one sample
   pub two_values : (sample first second : List Value) → length sample ≡ length (parameters scope rel) → length first ≡ length outputs →
-      Sol (twice_outputs scope outputs rel) (twice scope outputs rel) [] (sample ++ (first ++ second)) → AreTwo scope outputs rel sample first second
+      Sol (twice_outputs scope outputs rel) (twice scope outputs shown rel) [] (sample ++ (first ++ second)) → AreTwo scope outputs shown rel sample first second
   two_values sample first second n k s =
       let m = length-map (parameters scope rel) (base_at scope) in
       let a = have_split (parameter_bases scope rel) (outputs ++ outputs) sample (first ++ second) (omega arith) s.0 in
       let b = have_split outputs outputs first second k a.1 in
       let solved : (env : List Value) → IsAt scope rel sample env → Holds rel (env ++ first) × Holds rel (env ++ second) = λ env at.
-      twice_solved scope outputs rel typed are_outputs env first second at.bases b.0 b.1
-      (subst (λ vs. Holds (twice scope outputs rel) (vs ++ (first ++ second))) (sym at.same) s.1) in
+      twice_solved scope outputs rel typed are_outputs env first second at.bases b.0 b.1 shown
+      (subst (λ vs. Holds (twice scope outputs shown rel) (vs ++ (first ++ second))) (sym at.same) s.1) in
       record {
         bases = a.0;
         somewhere = sample_somewhere scope rel sample a.0;
         first_solves = λ env at. (b.0, (solved env at).0);
         second_solves = λ env at. (b.1, (solved env at).1);
-        different = twice_differ scope outputs rel typed are_outputs sample first second a.0 b.0 b.1 s.1;
+        different = twice_differ scope outputs rel typed are_outputs shown sample first second a.0 b.0 b.1 s.1;
       }
 
 -- ---- the question `none`

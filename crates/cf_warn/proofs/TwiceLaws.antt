@@ -1,5 +1,5 @@
 -- The question `twice`: it is typed and linear, and holds exactly at two different solutions at one sample.
-use Rattle.std.proofs.Common.{inl, inr, ◌≡◌, ◌≢◌, ◌⊎◌, ◌↔◌, ℕ, zero, suc, ◌+◌, ◌<◌, pos, true, false, unwrap_or, Some, List, [], ◌∷◌, ◌++◌, length, slice_get, map, All, subst, refl, sym, ap, ap₂, ◌∙◌, arith}
+use Rattle.std.proofs.Common.{inl, inr, ◌≡◌, ◌≢◌, ◌⊎◌, ◌↔◌, ℕ, zero, suc, ◌+◌, ◌<◌, pos, true, false, unwrap_or, Some, List, [], ◌∷◌, ◌++◌, length, take, slice_get, map, All, subst, refl, sym, ap, ap₂, ◌∙◌, arith}
 use Rattle.std.specs.Ordering.{int_eq}
 use Rattle.std.proofs.lemmas.List.{length-append, length-map, append_assoc, append-nil}
 use Rattle.std.proofs.lemmas.List.Elements.{All-nil, All-cons, All-head, All-tail, All-append}
@@ -34,6 +34,24 @@ stand_behind front (a ∷ xs) back x e =
       subst (λ i. slice_get (front ++ (a ∷ (xs ++ back))) i ≡ Some a) here (slice_get-behind front (a ∷ (xs ++ back)) 0),
       subst (λ as_. Stand as_ (x + 1) xs) more (stand_behind (front ++ (a ∷ [])) xs back (x + 1) (omega arith)),
     )
+
+-- ---- so many first ones
+take_stand : {A : Type 0} (n : ℕ) (whole : List A) (x : ℕ) (as_ : List A) → Stand whole x as_ → Stand whole x (take n as_)
+take_stand zero whole x as_ h = tt
+take_stand (suc n) whole x [] h = tt
+take_stand (suc n) whole x (a ∷ as_) h = (h.0, take_stand n whole (x + 1) as_ h.1)
+
+take_have : (n : ℕ) (bs : List Base) (xs : List Value) → HaveBases bs xs → HaveBases (take n bs) (take n xs)
+take_have zero bs xs h = tt
+take_have (suc n) [] [] h = tt
+take_have (suc n) [] (v ∷ xs) h = absurd h
+take_have (suc n) (b ∷ bs) [] h = absurd h
+take_have (suc n) (b ∷ bs) (v ∷ xs) h = (h.0, take_have n bs xs h.1)
+
+take_outputs : (n : ℕ) (bs : List Base) → All IsOutput bs → All IsOutput (take n bs)
+take_outputs zero bs o = All-nil IsOutput
+take_outputs (suc n) [] o = All-nil IsOutput
+take_outputs (suc n) (b ∷ bs) o = All-cons IsOutput b (take n bs) (All-head IsOutput b bs o) (take_outputs n bs (All-tail IsOutput b bs o))
 
 -- ---- values that differ
 true_false : true ≡ false → ⊥
@@ -176,27 +194,29 @@ module _ (scope outputs : List Base) (rel : RelTree) (typed : IsTyped (scope ++ 
       let l = length-append front xs in
       subst (λ zs. Stand zs n ys) s (stand_behind (front ++ xs) ys [] n (omega arith))
 
-  typed_third : IsTyped (twice_outputs scope outputs rel)
-      (halves rel_or rel_false (others outputs (length (parameters scope rel)) (length (parameters scope rel) + length outputs)))
-  typed_third =
+  typed_third : (shown : ℕ) →
+      IsTyped (twice_outputs scope outputs rel)
+      (halves rel_or rel_false (others (take shown outputs) (length (parameters scope rel)) (length (parameters scope rel) + length outputs)))
+  typed_third shown =
+      let n = length (parameters scope rel) in
       let l = length-params in
-      halves_keep rel_or rel_false (IsTyped (twice_outputs scope outputs rel)) tt (λ a b p q. (p, q))
-      (others outputs (length (parameters scope rel)) (length (parameters scope rel) + length outputs))
-      (typed_others (twice_outputs scope outputs rel) outputs (length (parameters scope rel)) (length (parameters scope rel) + length outputs) are_outputs
-      (stand_behind (parameter_bases scope rel) outputs outputs (length (parameters scope rel)) l)
-      (copy_behind (parameter_bases scope rel) outputs outputs (length (parameters scope rel) + length outputs) (omega arith)))
+      halves_keep rel_or rel_false (IsTyped (twice_outputs scope outputs rel)) tt (λ a b p q. (p, q)) (others (take shown outputs) n (n + length outputs))
+      (typed_others (twice_outputs scope outputs rel) (take shown outputs) n (n + length outputs) (take_outputs shown outputs are_outputs)
+      (take_stand shown (twice_outputs scope outputs rel) n outputs (stand_behind (parameter_bases scope rel) outputs outputs n l))
+      (take_stand shown (twice_outputs scope outputs rel) (n + length outputs) outputs
+      (copy_behind (parameter_bases scope rel) outputs outputs (n + length outputs) (omega arith))))
 
-  pub twice_typed : IsTyped (twice_outputs scope outputs rel) (twice scope outputs rel)
-  twice_typed = (typed_first, (typed_second, typed_third))
+  pub twice_typed : (shown : ℕ) → IsTyped (twice_outputs scope outputs rel) (twice scope outputs shown rel)
+  twice_typed shown = (typed_first, (typed_second, typed_third shown))
 
-  pub twice_linear : IsLinear rel → IsLinear (twice scope outputs rel)
-  twice_linear linear = (
+  pub twice_linear : (shown : ℕ) → IsLinear rel → IsLinear (twice scope outputs shown rel)
+  twice_linear shown linear = (
     linear-at (level_in (length scope) (parameters scope rel) 0) rel linear,
     (
       linear-at (level_in (length scope) (parameters scope rel) (length outputs)) rel linear,
       halves_keep rel_or rel_false IsLinear tt (λ a b p q. (p, q))
-          (others outputs (length (parameters scope rel)) (length (parameters scope rel) + length outputs))
-          (linear_others outputs (length (parameters scope rel)) (length (parameters scope rel) + length outputs)),
+          (others (take shown outputs) (length (parameters scope rel)) (length (parameters scope rel) + length outputs))
+          (linear_others (take shown outputs) (length (parameters scope rel)) (length (parameters scope rel) + length outputs)),
     ),
   )
 
@@ -241,37 +261,43 @@ module _ (scope outputs : List Base) (rel : RelTree) (typed : IsTyped (scope ++ 
         (at_level (number (pos 0)) env xs ys [] (parameters scope rel) (length scope) (length outputs) x n (λ l. has_parameter scope rel x l e)
         (let w = within x e in omega arith) k)))
 
-    pub twice_solved : Holds (twice scope outputs rel) (map (value_at env) (parameters scope rel) ++ (xs ++ ys)) → Holds rel (env ++ xs) × Holds rel (env ++ ys)
-    twice_solved h = (first_holds.0 h.0, second_holds.0 h.1.0)
+    pub twice_solved : (shown : ℕ) → Holds (twice scope outputs shown rel) (map (value_at env) (parameters scope rel) ++ (xs ++ ys)) →
+        Holds rel (env ++ xs) × Holds rel (env ++ ys)
+    twice_solved shown h = (first_holds.0 h.0, second_holds.0 h.1.0)
 
-    -- two solutions are the same, or solve the question
-    pub same_or_twice : Holds rel (env ++ xs) → Holds rel (env ++ ys) →
-        (xs ≡ ys) ⊎ Holds (twice scope outputs rel) (map (value_at env) (parameters scope rel) ++ (xs ++ ys))
-    same_or_twice p q =
+    -- two solutions are the same in what is shown, or solve the question
+    pub same_or_twice : (shown : ℕ) → Holds rel (env ++ xs) → Holds rel (env ++ ys) →
+        (take shown xs ≡ take shown ys) ⊎ Holds (twice scope outputs shown rel) (map (value_at env) (parameters scope rel) ++ (xs ++ ys))
+    same_or_twice shown p q =
         let l = length-map (parameters scope rel) (value_at env) in
         let k = length_have outputs xs first in
         let n = length (parameters scope rel) in
-        elim (same_or_others (map (value_at env) (parameters scope rel) ++ (xs ++ ys)) outputs xs ys n (n + length outputs) are_outputs first second
-        (stand_behind (map (value_at env) (parameters scope rel)) xs ys n l)
-        (copy_behind (map (value_at env) (parameters scope rel)) xs ys (n + length outputs) (omega arith))) [
+        let whole = map (value_at env) (parameters scope rel) ++ (xs ++ ys) in
+        elim (same_or_others whole (take shown outputs) (take shown xs) (take shown ys) n (n + length outputs) (take_outputs shown outputs are_outputs)
+        (take_have shown outputs xs first) (take_have shown outputs ys second)
+        (take_stand shown whole n xs (stand_behind (map (value_at env) (parameters scope rel)) xs ys n l))
+        (take_stand shown whole (n + length outputs) ys
+        (copy_behind (map (value_at env) (parameters scope rel)) xs ys (n + length outputs) (omega arith)))) [
           | inl e ↦ inl e
           | inr s ↦ inr (
             first_holds.1 p,
             (
               second_holds.1 q,
-              (some_halves (map (value_at env) (parameters scope rel) ++ (xs ++ ys)) (others outputs n (n + length outputs))).1 s,
+              (some_halves whole (others (take shown outputs) n (n + length outputs))).1 s,
             ),
           )
         ]
 
-  -- a solution of the question has two different lists of outputs
-  pub twice_differ : (sample xs ys : List Value) → HaveBases (parameter_bases scope rel) sample → HaveBases outputs xs → HaveBases outputs ys →
-      Holds (twice scope outputs rel) (sample ++ (xs ++ ys)) → xs ≢ ys
-  twice_differ sample xs ys have first second h =
+  -- a solution of the question has two lists of outputs that differ in what is shown
+  pub twice_differ : (shown : ℕ) (sample xs ys : List Value) → HaveBases (parameter_bases scope rel) sample → HaveBases outputs xs → HaveBases outputs ys →
+      Holds (twice scope outputs shown rel) (sample ++ (xs ++ ys)) → take shown xs ≢ take shown ys
+  twice_differ shown sample xs ys have first second h =
       let l = length_have (parameter_bases scope rel) sample have in
       let m = length-params in
       let k = length_have outputs xs first in
       let n = length (parameters scope rel) in
-      others_differ (sample ++ (xs ++ ys)) outputs xs ys n (n + length outputs) first second (stand_behind sample xs ys n (omega arith))
-      (copy_behind sample xs ys (n + length outputs) (omega arith))
-      ((some_halves (sample ++ (xs ++ ys)) (others outputs n (n + length outputs))).0 h.1.1)
+      let whole = sample ++ (xs ++ ys) in
+      others_differ whole (take shown outputs) (take shown xs) (take shown ys) n (n + length outputs) (take_have shown outputs xs first)
+      (take_have shown outputs ys second) (take_stand shown whole n xs (stand_behind sample xs ys n (omega arith)))
+      (take_stand shown whole (n + length outputs) ys (copy_behind sample xs ys (n + length outputs) (omega arith)))
+      ((some_halves whole (others (take shown outputs) n (n + length outputs))).0 h.1.1)

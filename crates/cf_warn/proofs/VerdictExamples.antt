@@ -11,18 +11,18 @@ use Rattle.cf_warn.specs.declared.answer.UniquenessAnswer.TheVariants.{Unique, T
 use Rattle.cf_warn.specs.Verdicts.{IsUniqueness}
 
 -- ---- the number 3 alone is the only one
-three-verdict : IsUniqueness [] (Int ∷ []) three Unique
+three-verdict : IsUniqueness [] (Int ∷ []) 1 three Unique
 three-verdict = (record { within = three-limit; fits = subst (λ n. n ≤ 2 ^ 127 - 1) (sym three-peak) (omega arith) }, three-unique)
 
 -- ---- from -1 on there are -1 and 0
 above-verdict : (sample first second : Vec RunValue Global) → sample.items ≡ ran.Int (negsuc 0) ∷ [] → first.items ≡ ran.Int (negsuc 0) ∷ [] →
-    second.items ≡ ran.Int (pos 0) ∷ [] → IsUniqueness (Bool ∷ Int ∷ []) (Int ∷ []) above (Two sample first second)
+    second.items ≡ ran.Int (pos 0) ∷ [] → IsUniqueness (Bool ∷ Int ∷ []) (Int ∷ []) 1 above (Two sample first second)
 above-verdict sample first second a b c =
     rw (a, b, c) (record { within = above-limit; fits = subst (λ n. n ≤ 2 ^ 127 - 1) (sym above-peak) (omega arith) }, above-run, above-two)
 
 -- ---- too many cases; a number past the limit
-not_few-verdict : IsUniqueness [] (Int ∷ []) not_few (Undecided (Refused (Limit Cases 2048)))
+not_few-verdict : IsUniqueness [] (Int ∷ []) 1 not_few (Undecided (Refused (Limit Cases 2048)))
 not_few-verdict = not_few-limit
 
-most-verdict : IsUniqueness [] (Int ∷ []) most (Undecided Overflow)
+most-verdict : IsUniqueness [] (Int ∷ []) 1 most (Undecided Overflow)
 most-verdict = (most-limit, subst (λ n. 2 ^ 127 - 1 < n) (sym most-run) (omega arith))

@@ -44,20 +44,20 @@ plains_cut : (n k : ℕ) (vs sample first second : List RunValue) → IsCut n k 
 plains_cut n k vs sample first second c =
     ap plains c.whole ∙ map-append plain sample (first ++ second) ∙ ap (λ ws. plains sample ++ ws) (map-append plain first second)
 
-module _ (scope outputs : List Base) (rel : RelTree) (typed : IsTyped (scope ++ outputs) rel) (are_outputs : All IsOutput outputs) where
+module _ (scope outputs : List Base) (shown : ℕ) (rel : RelTree) (typed : IsTyped (scope ++ outputs) rel) (are_outputs : All IsOutput outputs) where
   -- a solution of the question: two different solutions at one sample
   two : (n k : ℕ) (vs sample first second : List RunValue) → n ≡ length (parameters scope rel) → k ≡ length outputs → IsCut n k vs sample first second →
-      Sol (twice_outputs scope outputs rel) (twice scope outputs rel) [] (plains vs) → AreTwo scope outputs rel (plains sample) (plains first) (plains second)
+      Sol (twice_outputs scope outputs rel) (twice scope outputs shown rel) [] (plains vs) → AreTwo scope outputs shown rel (plains sample) (plains first) (plains second)
   two n k vs sample first second e f c s =
       let a = length-map sample plain in
       let b = length-map first plain in
       let i = c.samples in
       let j = c.outputs in
-      two_values scope outputs rel typed are_outputs (plains sample) (plains first) (plains second) (omega arith) (omega arith)
-      (subst (Sol (twice_outputs scope outputs rel) (twice scope outputs rel) []) (plains_cut n k vs sample first second c) s)
+      two_values scope outputs shown rel typed are_outputs (plains sample) (plains first) (plains second) (omega arith) (omega arith)
+      (subst (Sol (twice_outputs scope outputs rel) (twice scope outputs shown rel) []) (plains_cut n k vs sample first second c) s)
 
   -- so many values has a solution of the question
-  pub values_long : (vs : List RunValue) → Sol (twice_outputs scope outputs rel) (twice scope outputs rel) [] (plains vs) →
+  pub values_long : (vs : List RunValue) → Sol (twice_outputs scope outputs rel) (twice scope outputs shown rel) [] (plains vs) →
       length vs ≡ length (parameters scope rel) + (length outputs + length outputs)
   values_long vs s =
       let a = length_have (twice_outputs scope outputs rel) (plains vs) s.0 in
@@ -69,10 +69,10 @@ module _ (scope outputs : List Base) (rel : RelTree) (typed : IsTyped (scope ++ 
 
   -- what the parts of the run's values say
   pub two_verdict : (n k : ℕ) (vs : List RunValue) (r : Result UniquenessAnswer NoMemory) → n ≡ length (parameters scope rel) → k ≡ length outputs →
-      IsClear (twice_outputs scope outputs rel) (twice scope outputs rel)
-      × (means (question_code (twice_outputs scope outputs rel) (twice scope outputs rel)) [] ≡ values (plains vs))
-      × Sol (twice_outputs scope outputs rel) (twice scope outputs rel) [] (plains vs) →
-      IfOk r (IsTwoOf n k vs) → IfOk r (IsUniqueness scope outputs rel)
+      IsClear (twice_outputs scope outputs rel) (twice scope outputs shown rel)
+      × (means (question_code (twice_outputs scope outputs rel) (twice scope outputs shown rel)) [] ≡ values (plains vs))
+      × Sol (twice_outputs scope outputs rel) (twice scope outputs shown rel) [] (plains vs) →
+      IfOk r (IsTwoOf n k vs) → IfOk r (IsUniqueness scope outputs shown rel)
   two_verdict n k vs (Err e) same long s t = tt
   two_verdict n k vs (Ok Unique) same long s t = absurd t
   two_verdict n k vs (Ok (Two sample first second)) same long s t = (

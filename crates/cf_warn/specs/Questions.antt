@@ -86,13 +86,13 @@ others (b ∷ bs) x y = other b x y ∷ others bs (x + 1) (y + 1)
 abbrev pub twice_outputs : List Base → List Base → RelTree → List Base
 twice_outputs scope outputs rel = parameter_bases scope rel ++ (outputs ++ outputs)
 
--- the relation for the outputs, the relation for the copy, and that some output differs
-abbrev pub twice : List Base → List Base → RelTree → RelTree
-twice scope outputs rel =
+-- the relation for the outputs, the relation for the copy, and that one of the first so many outputs, which are shown, differs
+abbrev pub twice : List Base → List Base → ℕ → RelTree → RelTree
+twice scope outputs shown rel =
     let params = parameters scope rel in
     let n = length params in
     let k = length outputs in
     halves rel_and rel_true (
     rel_at (level_in (length scope) params 0) rel ∷
     rel_at (level_in (length scope) params k) rel ∷
-    halves rel_or rel_false (others outputs n (n + k)) ∷ [])
+    halves rel_or rel_false (others (take shown outputs) n (n + k)) ∷ [])

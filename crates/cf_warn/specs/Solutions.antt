@@ -1,5 +1,5 @@
 -- What the solutions of a question may say of its choose.
-use Rattle.std.specs.Prelude.{◌≡◌, ◌≢◌, List, [], map}
+use Rattle.std.specs.Prelude.{ℕ, ◌≡◌, ◌≢◌, List, [], map, take}
 use Rattle.cf_tree.specs.declared.base.Base.{Base}
 use Rattle.cf_tree.specs.CodeTree.{CodeTree, code_solve, arms_of}
 use Rattle.cf_tree.specs.Relation.{Sol}
@@ -19,18 +19,18 @@ pub record IsAt (scope : List Base) (rel : RelTree) (sample env : List Value) : 
   pub same : map (value_at env) (parameters scope rel) ≡ sample
 
 -- ---- uniqueness
--- no two different lists of outputs solve the relation in one environment
-abbrev pub AreUnique : List Base → List Base → RelTree → Type 0
-AreUnique scope outputs rel =
-    (env xs ys : List Value) → HaveBases scope env → Sol outputs rel env xs → Sol outputs rel env ys → xs ≡ ys
+-- no two lists of outputs that solve the relation in one environment differ in the first so many outputs, which are shown
+abbrev pub AreUnique : List Base → List Base → ℕ → RelTree → Type 0
+AreUnique scope outputs shown rel =
+    (env xs ys : List Value) → HaveBases scope env → Sol outputs rel env xs → Sol outputs rel env ys → take shown xs ≡ take shown ys
 
--- two different solutions at one sample
-pub record AreTwo (scope outputs : List Base) (rel : RelTree) (sample first second : List Value) : Type 0 where
+-- two solutions at one sample that differ in what is shown
+pub record AreTwo (scope outputs : List Base) (shown : ℕ) (rel : RelTree) (sample first second : List Value) : Type 0 where
   pub bases : HaveBases (parameter_bases scope rel) sample
   pub somewhere : (env : List Value) × IsAt scope rel sample env
   pub first_solves : (env : List Value) → IsAt scope rel sample env → Sol outputs rel env first
   pub second_solves : (env : List Value) → IsAt scope rel sample env → Sol outputs rel env second
-  pub different : first ≢ second
+  pub different : take shown first ≢ take shown second
 
 -- ---- existence
 -- some outputs solve the relation in each environment

@@ -1,5 +1,5 @@
 -- What the questions of a choose answer.
-use Rattle.std.specs.Prelude.{◌≡◌, ◌≤◌, ◌<◌, ◌-◌, ◌^◌, ◌⊎◌, List, [], ◌++◌, Some, None}
+use Rattle.std.specs.Prelude.{ℕ, ◌≡◌, ◌≤◌, ◌<◌, ◌-◌, ◌^◌, ◌⊎◌, List, [], ◌++◌, Some, None}
 use Rattle.cf_tree.specs.declared.base.Base.{Base}
 use Rattle.cf_tree.specs.Meaning.{means, peak}
 use Rattle.cf_tree.specs.RelTree.{RelTree}
@@ -31,15 +31,15 @@ IsDoubt outputs rel (Refused r) = limit [] outputs rel ≡ Some r
 IsDoubt outputs rel Overflow = (limit [] outputs rel ≡ None) × (2 ^ 127 - 1 < peak (question_code outputs rel) [])
 
 -- ---- uniqueness
--- the verdict on the question whether outputs are the only ones
-abbrev pub IsUniqueness : List Base → List Base → RelTree → UniquenessAnswer → Type 0
-IsUniqueness scope outputs rel Unique = IsClear (twice_outputs scope outputs rel) (twice scope outputs rel) × AreUnique scope outputs rel
-IsUniqueness scope outputs rel (Two sample first second) =
-    IsClear (twice_outputs scope outputs rel) (twice scope outputs rel)
-    × (means (question_code (twice_outputs scope outputs rel) (twice scope outputs rel)) [] ≡ values
+-- the verdict on the question whether outputs are the only ones, where the first so many of them are shown
+abbrev pub IsUniqueness : List Base → List Base → ℕ → RelTree → UniquenessAnswer → Type 0
+IsUniqueness scope outputs shown rel Unique = IsClear (twice_outputs scope outputs rel) (twice scope outputs shown rel) × AreUnique scope outputs shown rel
+IsUniqueness scope outputs shown rel (Two sample first second) =
+    IsClear (twice_outputs scope outputs rel) (twice scope outputs shown rel)
+    × (means (question_code (twice_outputs scope outputs rel) (twice scope outputs shown rel)) [] ≡ values
     (plains sample.items ++ (plains first.items ++ plains second.items)))
-    × AreTwo scope outputs rel (plains sample.items) (plains first.items) (plains second.items)
-IsUniqueness scope outputs rel (Undecided d) = IsDoubt (twice_outputs scope outputs rel) (twice scope outputs rel) d
+    × AreTwo scope outputs shown rel (plains sample.items) (plains first.items) (plains second.items)
+IsUniqueness scope outputs shown rel (Undecided d) = IsDoubt (twice_outputs scope outputs rel) (twice scope outputs shown rel) d
 
 -- ---- existence
 -- the arms have at most 1,000 tuples, and the question is without doubt

@@ -1,5 +1,5 @@
 //! The question whether a choose has two solutions.
-ghost use Rattle.std.specs.Prelude.{◌≡◌, IfOk, map};
+ghost use Rattle.std.specs.Prelude.{◌≡◌, IfOk, map, take};
 ghost use Rattle.cf_tree.specs.RelTree.{rel_or, rel_false};
 ghost use Rattle.cf_tree.specs.RelView.{rel_tree};
 ghost use Rattle.cf_choose.specs.Solved.{IsSolved};
@@ -28,18 +28,24 @@ pub fn twice_outputs(alloc: Global, solved: &Solved, params: &[u32]) -> Result<V
 }
 
 /// The question whether solutions are the only ones: the relation for the outputs, the relation for
-/// a copy of them, and that some output differs.
+/// a copy of them, and that one of the first so many outputs, which are shown, differs.
 ///
 /// # Errors
 /// `NoMemory` where memory ran out, or a level does not fit in 32 bits.
-pub fn twice(alloc: Global, solved: &Solved, params: Vec<u32>) -> Result<Rel, NoMemory>
+pub fn twice(
+    alloc: Global,
+    solved: &Solved,
+    params: Vec<u32>,
+    shown: usize,
+) -> Result<Rel, NoMemory>
     requires { params.items ≡ parameters solved.now.scope.items (rel_tree solved.now.rel) }
-    ensures { IfOk result (λ rel. rel_tree rel ≡ twice solved.now.scope.items solved.now.outputs.items (rel_tree solved.now.rel)) }
+    ensures { IfOk result (λ rel. rel_tree rel ≡ twice solved.now.scope.items solved.now.outputs.items shown (rel_tree solved.now.rel)) }
 {
     let scope = to_u32(solved.scope().len())?;
     let outputs = to_u32(solved.outputs().len())?;
     let count = to_u32(params.len())?;
-    let differ = some_other(alloc, solved.outputs(), count, add_u32(count, outputs)?)?;
+    let compared = front(solved.outputs(), shown);
+    let differ = some_other(alloc, compared, count, add_u32(count, outputs)?)?;
     let mut levels = Levels {
         scope,
         params,
@@ -50,6 +56,17 @@ pub fn twice(alloc: Global, solved: &Solved, params: Vec<u32>) -> Result<Rel, No
     let second = levels.boxed_rel(alloc, solved.relation())?;
     let copy = Box::new(alloc, Rel::And(second, differ))?;
     Ok(Rel::And(first, copy))
+}
+
+// So many first outputs, or all where there are no more.
+fn front(outputs: &[Base], shown: usize) -> &[Base]
+    ensures { result.now ≡ take shown outputs.now }
+{
+    if shown < outputs.len() {
+        &outputs[..shown]
+    } else {
+        outputs
+    }
 }
 
 // That some output differs, where the outputs have levels from these two on.

@@ -14,38 +14,53 @@ use cf_eval::Value;
 use cf_tree::{NoMemory, without};
 use std::alloc::Global;
 
-/// Whether a choose has two different solutions with the same parameters: `Unique` where it has none,
-/// `Two` solutions at one sample, or the doubt of the question.
+/// Whether a choose has two solutions with the same parameters that differ in one of the first so many
+/// outputs, which are shown: `Unique` where it has none, `Two` solutions at one sample, or the doubt of
+/// the question.
 ///
 /// # Errors
 /// `NoMemory` where memory ran out.
-pub fn uniqueness(alloc: Global, solved: &Solved) -> Result<UniquenessAnswer, NoMemory>
-    ensures { IfOk result (IsUniqueness solved.now.scope.items solved.now.outputs.items (rel_tree solved.now.rel)) }
+pub fn uniqueness(
+    alloc: Global,
+    solved: &Solved,
+    shown: usize,
+) -> Result<UniquenessAnswer, NoMemory>
+    ensures { IfOk result (IsUniqueness solved.now.scope.items solved.now.outputs.items shown (rel_tree solved.now.rel)) }
 {
     let params = parameters(alloc, solved)?;
     let count = params.len();
-    let asked = ask_twice(alloc, solved, params)?;
-    answer(solved, count, asked)
+    let asked = ask_twice(alloc, solved, params, shown)?;
+    answer(solved, count, shown, asked)
 }
 
 // What the question answers.
-fn ask_twice(alloc: Global, solved: &Solved, params: Vec<u32>) -> Result<Asked, NoMemory>
+fn ask_twice(
+    alloc: Global,
+    solved: &Solved,
+    params: Vec<u32>,
+    shown: usize,
+) -> Result<Asked, NoMemory>
     requires { params.items ≡ parameters solved.now.scope.items (rel_tree solved.now.rel) }
     ensures { IfOk result (IsAsked (twice_outputs solved.now.scope.items solved.now.outputs.items (rel_tree solved.now.rel))
-        (twice solved.now.scope.items solved.now.outputs.items (rel_tree solved.now.rel))) }
+        (twice solved.now.scope.items solved.now.outputs.items shown (rel_tree solved.now.rel))) }
 {
     let outputs = twice_outputs(alloc, solved, &params)?;
-    let rel = twice(alloc, solved, params)?;
+    let rel = twice(alloc, solved, params, shown)?;
     let asked = ask(alloc, &outputs, &rel);
     without(rel, asked)
 }
 
 // The verdict, where the question answers this.
-fn answer(solved: &Solved, count: usize, asked: Asked) -> Result<UniquenessAnswer, NoMemory>
+fn answer(
+    solved: &Solved,
+    count: usize,
+    shown: usize,
+    asked: Asked,
+) -> Result<UniquenessAnswer, NoMemory>
     requires count { count ≡ length (parameters solved.now.scope.items (rel_tree solved.now.rel)) }
     requires asked { IsAsked (twice_outputs solved.now.scope.items solved.now.outputs.items (rel_tree solved.now.rel))
-        (twice solved.now.scope.items solved.now.outputs.items (rel_tree solved.now.rel)) asked }
-    ensures { IfOk result (IsUniqueness solved.now.scope.items solved.now.outputs.items (rel_tree solved.now.rel)) }
+        (twice solved.now.scope.items solved.now.outputs.items shown (rel_tree solved.now.rel)) asked }
+    ensures { IfOk result (IsUniqueness solved.now.scope.items solved.now.outputs.items shown (rel_tree solved.now.rel)) }
 {
     let outputs = solved.outputs().len();
     match asked {

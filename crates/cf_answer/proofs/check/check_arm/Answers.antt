@@ -8,5 +8,5 @@ pub returns : goal.returns
 returns c =
     let infos = c.args.matches.now.infos.now in
     on_ok_weaker c.check_uniqueness.result
-    (λ h. arm_checked (map match_tree infos) c.args.choose.now _ c.in_ok-levels.levels.items _ c.in_ok-levels.ensures c.requires h)
+    (λ h told. arm_checked (map match_tree infos) told c.args.choose.now _ c.in_ok-levels.levels.items _ c.in_ok-levels.ensures c.requires h)
     (rw c.deref.ensures.value at c.check_uniqueness.ensures)

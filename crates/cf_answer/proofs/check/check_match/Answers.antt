@@ -5,5 +5,5 @@ use Rattle.cf_answer.proofs.check.check_match.Goals as goal
 
 pub returns : goal.returns
 returns c =
-    match_checked (map match_tree c.args.matches.now.infos.now) c.args.choose.now _ _ c.args.info.now c.requires.among c.requires.number
+    λ told. match_checked (map match_tree c.args.matches.now.infos.now) told c.args.choose.now _ _ c.args.info.now c.requires.among c.requires.number
     c.in_ok-check_cover.ensures

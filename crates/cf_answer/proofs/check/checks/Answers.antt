@@ -1,4 +1,6 @@
+use Rattle.std.proofs.Common.{map}
 use Rattle.std.proofs.lemmas.Result.{err_from_is_err_and}
+use Rattle.cf_form.specs.ToldView.{told_choose}
 use Rattle.cf_answer.proofs.CheckLemmas.{program_checks}
 use Rattle.cf_answer.proofs.LoweredLemmas.{lowered_defs, lowered_refused}
 use Rattle.cf_answer.proofs.check.checks.Goals as goal
@@ -17,5 +19,5 @@ lines-requires-clause-classes c = rw c.matches.ensures.value c.requires
 pub returns : goal.returns
 returns c =
     let written = rw (c.matches.ensures.value, c.deref.ensures.value) at c.in_ok-text.ensures in
-    λ source s. program_checks s.typed.defs _ c.args.lowered.now.matches.items c.in_ok-chooses.chooses.items c.in_ok-text.text.items
+    λ source s. program_checks s.typed.defs _ c.args.lowered.now.matches.items (map told_choose c.args.told.now) c.in_ok-chooses.chooses.items c.in_ok-text.text.items
     (lowered_defs source c.args.lowered.now _ s c.typed.ensures.value) s.matches c.in_ok-chooses.ensures.solved written

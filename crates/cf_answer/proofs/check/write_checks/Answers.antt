@@ -1,25 +1,14 @@
 use Rattle.std.proofs.Common.{◌∙◌, refl, sym, append-nil}
 use Rattle.std.proofs.lemmas.Result.{err_from_is_err_and}
 use Rattle.cf_answer.proofs.AnswerLemmas.{stopped_answers, written_answers}
-use Rattle.cf_answer.proofs.TextLemmas.{broken_refused}
 use Rattle.cf_answer.proofs.check.write_checks.Goals as goal
-
-pub checks-requires : goal.checks-requires
-checks-requires g c = c.in_ok-lowered.ensures.1.classes
-
-pub returns-in_err-lowered-clause-answers : goal.returns-in_err-lowered-clause-answers
-returns-in_err-lowered-clause-answers g c =
-    let p = err_from_is_err_and c.from_residual.result c.from_residual.ensures.1 in
-    λ file given input. rw (p.1, p.2) (stopped_answers _ given given _ _ _ refl (broken_refused _ _ c.in_err-lowered.ensures))
 
 pub returns-in_err-text-clause-answers : goal.returns-in_err-text-clause-answers
 returns-in_err-text-clause-answers g c =
-    let p = err_from_is_err_and c.from_residual-in_err-text.result c.from_residual-in_err-text.ensures.1 in
-    λ file given input. rw (p.1, p.2) (stopped_answers _ given given _ _ _ refl (c.in_err-text.ensures c.args.text.now c.in_ok-lowered.ensures.1))
+    let p = err_from_is_err_and c.from_residual.result c.from_residual.ensures.1 in
+    λ file given input. rw (p.1, p.2) (stopped_answers _ given given _ _ _ refl c.in_err-text.ensures)
 
 pub returns-clause-answers : goal.returns-clause-answers
 returns-clause-answers g c =
-    let l = c.in_ok-lowered.ensures in
-    let s = l.1 in
-    λ file given input. written_answers _ given given _ _ _ input _ _ _ refl refl (l.0, s.typed, s.is, c.in_ok-text.ensures c.args.text.now s)
-    (c.deref.ensures.value ∙ sym (append-nil _)) c.write_text.ensures.all c.write_text.ensures.prefix c.write_text.ensures.fault c.write_text.ensures.count
+    λ file given input. written_answers _ given given _ _ _ input _ _ _ refl refl c.in_ok-text.ensures (c.deref.ensures.value ∙ sym (append-nil _))
+    c.write_text.ensures.all c.write_text.ensures.prefix c.write_text.ensures.fault c.write_text.ensures.count

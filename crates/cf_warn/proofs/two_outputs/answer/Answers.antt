@@ -9,7 +9,7 @@ two-requires c =
     let p = c.args.solved.now in
     let s = c.outputs-outputs.ensures.solved in
     let asked = rw c.in-Solution.is at c.requires.asked in
-    let long = values_long p.scope.items p.outputs.items (rel_tree p.rel) s.typed s.are_outputs c.in-Solution.values.items asked.2 in
+    let long = values_long p.scope.items p.outputs.items c.args.shown (rel_tree p.rel) s.typed s.are_outputs c.in-Solution.values.items asked.2 in
     let k = ap (λ bs. length bs) c.outputs-outputs.ensures.value in
     omega (arith, long, k, c.requires.count)
 
@@ -18,7 +18,7 @@ returns-in-Solution c =
     let p = c.args.solved.now in
     let s = c.outputs-outputs.ensures.solved in
     let asked = rw c.in-Solution.is at c.requires.asked in
-    two_verdict p.scope.items p.outputs.items (rel_tree p.rel) s.typed s.are_outputs c.args.count _ c.in-Solution.values.items c.two.result c.requires.count
+    two_verdict p.scope.items p.outputs.items c.args.shown (rel_tree p.rel) s.typed s.are_outputs c.args.count _ c.in-Solution.values.items c.two.result c.requires.count
     (ap (λ bs. length bs) c.outputs-outputs.ensures.value) asked c.two.ensures
 
 pub returns-in-NoSolution : goal.returns-in-NoSolution
@@ -26,4 +26,4 @@ returns-in-NoSolution c =
     let p = c.args.solved.now in
     let s = c.outputs-outputs.ensures.solved in
     let asked = rw c.in-NoSolution.is at c.requires.asked in
-    (asked.0, unique p.scope.items p.outputs.items (rel_tree p.rel) s.typed s.are_outputs asked.1)
+    (asked.0, unique p.scope.items p.outputs.items c.args.shown (rel_tree p.rel) s.typed s.are_outputs asked.1)

@@ -1,0 +1,514 @@
+//! What `check` asks of a choose that is told of, branch by branch.
+ghost use Rattle.std.specs.Prelude.{◌≡◌, ◌||◌, int_lt, pos, All, IfOk, Option, Some, None, length, map};
+ghost use Rattle.cf_tree.specs.RelTree.{rel_not, rel_or};
+ghost use Rattle.cf_tree.specs.RelView.{rel_tree};
+ghost use Rattle.cf_tree.specs.Values.{number_of};
+ghost use Rattle.cf_eval.specs.Seen.{plain, plains};
+ghost use Rattle.cf_form.specs.Branches.{is_among as is_among_of, values_in};
+ghost use Rattle.cf_form.specs.ToldView.{given_tree, told_branch, told_choose, truth_at};
+ghost use Rattle.cf_choose.specs.Solved.{IsOutput, SolveAnswer};
+ghost use Rattle.cf_warn.specs.Questions.{base_at as the_base_at};
+ghost use Rattle.cf_warn.specs.declared.answer.ExistenceAnswer.TheVariants.{Always};
+ghost use Rattle.cf_warn.specs.declared.answer.UniquenessAnswer.TheVariants.{Unique};
+ghost use Rattle.cf_answer.specs.ToldChecks.{ComeTo, IsBranchExistence, IsBranchUniqueness, NamesExistence, NamesUniqueness};
+ghost use Rattle.cf_answer.specs.ToldChecks.{at_rest as at_rest_of, beside, condition_holds as condition_holds_of, existence_question as question_of};
+ghost use Rattle.cf_answer.specs.ToldChecks.{first_existence as first_existence_of, first_uniqueness as first_uniqueness_of};
+ghost use Rattle.cf_answer.specs.ToldChecks.{is_told as is_told_of, named_levels as named_levels_of};
+ghost use Rattle.cf_answer.specs.ToldChecks.{shown_value as shown_value_of, shown_values as shown_values_of, some_condition_holds as some_condition_holds_of};
+ghost use Rattle.cf_answer.specs.ToldChecks.{told_of as the_told_of, truth_or};
+ghost use Rattle.cf_answer.specs.Checking.{IsExistenceOf, IsRefusedExistence, IsRefusedUniqueness, IsUniquenessOf, asked_view, named_by, telling_view};
+
+use cf_choose::{ChooseFault, Solved, solve};
+use cf_eval::Value;
+use cf_form::{Branch, ChooseInfo, TruthAt};
+use cf_set::Set;
+use cf_setwit::push_if;
+use cf_tree::{Base, NoMemory, Rel, to_u32, without};
+use cf_warn::{
+    Doubt, ExistenceAnswer, UniquenessAnswer, existence, is_over, parameters, rel_holds, uniqueness,
+};
+use std::alloc::Global;
+
+// What is asked of each branch: the bases of the scope, of all outputs, and of those that are given
+// out, and the levels that samples name.
+#[derive(Clone, Copy)]
+pub(crate) struct Asked<'a> {
+    pub(crate) scope: &'a [Base],
+    pub(crate) outputs: &'a [Base],
+    pub(crate) shown: &'a [Base],
+    pub(crate) levels: &'a [u32],
+}
+
+// ---- which choose is told of
+// What is told of a choose.
+#[derive(Clone, Copy)]
+pub(crate) enum Telling<'a> {
+    Nothing,
+    Told(&'a ChooseInfo),
+}
+
+/// What is told of the choose of this number.
+pub(crate) fn told_of(told: &[ChooseInfo], number: u32) -> Telling<'_>
+    ensures { telling_view result ≡ the_told_of (map told_choose told.now) number }
+{
+    let mut rest = told;
+    while let Some((choose, more)) = rest.split_first() {
+        if choose.number == number {
+            return Telling::Told(choose);
+        }
+        rest = more;
+    }
+    Telling::Nothing
+}
+
+/// Whether something is told of the choose of this number.
+pub(crate) fn is_told(told: &[ChooseInfo], number: u32) -> bool
+    ensures { result ≡ is_told_of (map told_choose told.now) number }
+{
+    let mut rest = told;
+    while let Some((choose, more)) = rest.split_first() {
+        if choose.number == number {
+            return true;
+        }
+        rest = more;
+    }
+    false
+}
+
+// ---- samples
+/// The levels that samples of a choose name, where so many variables are in scope.
+pub(crate) fn named_levels(
+    alloc: Global,
+    scope: usize,
+    told: &ChooseInfo,
+) -> Result<Vec<u32>, NoMemory>
+    ensures { IfOk result (λ xs. xs.items ≡ named_levels_of scope (told_choose told.now)) }
+{
+    let end = to_u32(scope)?;
+    let mut levels = Vec::new(alloc);
+    for level in 0..end {
+        push_if(&mut levels, is_named(told, level), level)?;
+    }
+    Ok(levels)
+}
+
+fn is_named(told: &ChooseInfo, level: u32) -> bool
+    ensures { result ≡ is_among_of level told.now.parameters.items || some_condition_holds_of level (map told_branch told.now.branches.items) }
+{
+    is_among(level, &told.parameters) || some_condition_holds(level, &told.branches)
+}
+
+fn is_among(level: u32, levels: &[u32]) -> bool
+    ensures { result ≡ is_among_of level levels.now }
+{
+    let mut rest = levels;
+    while let Some((first, more)) = rest.split_first() {
+        if level == *first {
+            return true;
+        }
+        rest = more;
+    }
+    false
+}
+
+fn some_condition_holds(level: u32, branches: &[Branch]) -> bool
+    ensures { result ≡ some_condition_holds_of level (map told_branch branches.now) }
+{
+    let mut rest = branches;
+    while let Some((branch, more)) = rest.split_first() {
+        if condition_holds(level, &branch.given) {
+            return true;
+        }
+        rest = more;
+    }
+    false
+}
+
+fn condition_holds(level: u32, given: &Option<Rel>) -> bool
+    ensures { result ≡ condition_holds_of level (given_tree given.now) }
+{
+    match given {
+        None => false,
+        Some(condition) => rel_holds(condition, level),
+    }
+}
+
+// What a sample names for each level.
+fn named_sample(
+    alloc: Global,
+    asked: &Asked<'_>,
+    truths: &[TruthAt],
+    params: &[u32],
+    sample: &[Value],
+) -> Result<Vec<Value>, NoMemory>
+    ensures { IfOk result (λ vs. plains vs.items ≡ map (λ x. truth_or (values_in (map truth_at truths.now) x)
+        (beside params.now (plains sample.now) x (at_rest_of (the_base_at asked.now.scope.now x)))) asked.now.levels.now) }
+{
+    let mut values = Vec::new(alloc);
+    let mut rest = asked.levels;
+    while let Some((level, more)) = rest.split_first() {
+        values.push(named_value(alloc, asked.scope, truths, params, sample, *level)?)?;
+        rest = more;
+    }
+    Ok(values)
+}
+
+fn named_value(
+    alloc: Global,
+    scope: &[Base],
+    truths: &[TruthAt],
+    params: &[u32],
+    sample: &[Value],
+    level: u32,
+) -> Result<Value, NoMemory>
+    ensures { IfOk result (λ v. plain v ≡ truth_or (values_in (map truth_at truths.now) level)
+        (beside params.now (plains sample.now) level (at_rest_of (the_base_at scope.now level)))) }
+{
+    match truth_of(truths, level) {
+        Some(truth) => Ok(Value::Truth(truth)),
+        None => value_beside(alloc, scope, params, sample, level),
+    }
+}
+
+// The value of the truth variable of that level in a branch.
+fn truth_of(truths: &[TruthAt], level: u32) -> Option<bool>
+    ensures { result ≡ values_in (map truth_at truths.now) level }
+{
+    let mut rest = truths;
+    while let Some((truth, more)) = rest.split_first() {
+        if level == truth.level {
+            return Some(truth.value);
+        }
+        rest = more;
+    }
+    None
+}
+
+// The value that stands beside the level, or else the one at rest.
+fn value_beside(
+    alloc: Global,
+    scope: &[Base],
+    params: &[u32],
+    sample: &[Value],
+    level: u32,
+) -> Result<Value, NoMemory>
+    ensures { IfOk result (λ v. plain v ≡ beside params.now (plains sample.now) level (at_rest_of (the_base_at scope.now level))) }
+{
+    let mut rest = params;
+    let mut values = sample;
+    while let Some((first, more)) = rest.split_first() {
+        let Some((value, more_values)) = values.split_first() else {
+            return at_rest(alloc, base_at(scope, level));
+        };
+        if level == *first {
+            return value.try_copy(alloc);
+        }
+        rest = more;
+        values = more_values;
+    }
+    at_rest(alloc, base_at(scope, level))
+}
+
+fn base_at(scope: &[Base], level: u32) -> Base
+    ensures { result ≡ the_base_at scope.now level }
+{
+    match scope.get(level as usize) {
+        Some(base) => *base,
+        None => Base::Int,
+    }
+}
+
+// What is named for a variable of which nothing is asked.
+fn at_rest(alloc: Global, base: Base) -> Result<Value, NoMemory>
+    ensures { IfOk result (λ v. plain v ≡ at_rest_of base) }
+{
+    match base {
+        Base::Int => Ok(Value::Int(0)),
+        Base::Bool => Ok(Value::Truth(false)),
+        Base::Set => Ok(Value::Elements(Set::from_list(alloc, &[])?)),
+    }
+}
+
+// ---- outputs
+// The outputs that are given out, without the hidden ones behind them.
+fn shown_values(alloc: Global, shown: &[Base], outputs: &[Value]) -> Result<Vec<Value>, NoMemory>
+    ensures { IfOk result (λ vs. plains vs.items ≡ shown_values_of shown.now (plains outputs.now)) }
+{
+    let mut values = Vec::new(alloc);
+    let mut rest = shown;
+    let mut behind = outputs;
+    while let Some((base, more)) = rest.split_first() {
+        let Some((value, more_values)) = behind.split_first() else {
+            return Ok(values);
+        };
+        values.push(shown_value(alloc, *base, value)?)?;
+        rest = more;
+        behind = more_values;
+    }
+    Ok(values)
+}
+
+fn shown_value(alloc: Global, base: Base, value: &Value) -> Result<Value, NoMemory>
+    ensures { IfOk result (λ v. plain v ≡ shown_value_of base (plain value.now)) }
+{
+    match base {
+        Base::Bool => Ok(Value::Truth(is_positive(value))),
+        Base::Int | Base::Set => value.try_copy(alloc),
+    }
+}
+
+fn is_positive(value: &Value) -> bool
+    ensures { result ≡ int_lt (pos 0) (number_of (plain value.now)) }
+{
+    match value {
+        Value::Int(number) => 0 < *number,
+        Value::Truth(_) | Value::Elements(_) => false,
+    }
+}
+
+// ---- the questions of a branch
+// The relation that has no solution exactly where the condition of a branch holds and its relation has none.
+fn existence_question(alloc: Global, branch: &Branch) -> Result<Rel, NoMemory>
+    ensures { IfOk result (λ r. rel_tree r ≡ question_of (told_branch branch.now)) }
+{
+    match &branch.given {
+        None => branch.relation.try_copy(alloc),
+        Some(given) => unless(alloc, given, &branch.relation),
+    }
+}
+
+// That the condition fails or the relation holds.
+fn unless(alloc: Global, given: &Rel, relation: &Rel) -> Result<Rel, NoMemory>
+    ensures { IfOk result (λ r. rel_tree r ≡ rel_or (rel_not (rel_tree given.now)) (rel_tree relation.now)) }
+{
+    let condition = Box::new(alloc, given.try_copy(alloc)?)?;
+    let fails = Box::new(alloc, Rel::Not(condition))?;
+    match relation.try_copy(alloc) {
+        Ok(relation) => Ok(Rel::Or(fails, Box::new(alloc, relation)?)),
+        Err(fault) => Err(without(fails, fault)),
+    }
+}
+
+// The relation solved as a choose. One that is not linear over these bases is want of memory; each that
+// is told is.
+fn solved_over(alloc: Global, asked: &Asked<'_>, rel: &Rel) -> Result<Solved, ChooseFault>
+    requires { All IsOutput asked.now.outputs.now }
+    ensures { SolveAnswer asked.now.scope.now asked.now.outputs.now (rel_tree rel.now) result }
+{
+    let mut bases = match Vec::from_slice(alloc, asked.scope) {
+        Ok(bases) => bases,
+        Err(_) => return Err(ChooseFault::NoMemory),
+    };
+    if bases.extend_from_slice(asked.outputs).is_err() || !is_over(&bases, rel) {
+        return Err(ChooseFault::NoMemory);
+    }
+    solve(alloc, asked.scope, asked.outputs, rel)
+}
+
+// Whether each input for which the condition holds has a solution in this branch.
+fn branch_existence(
+    alloc: Global,
+    asked: &Asked<'_>,
+    branch: &Branch,
+) -> Result<ExistenceAnswer, NoMemory>
+    requires { All IsOutput asked.now.outputs.now }
+    ensures { IfOk result (IsBranchExistence (asked_view asked.now) (told_branch branch.now)) }
+{
+    let rel = existence_question(alloc, branch)?;
+    let solved = solved_over(alloc, asked, &rel);
+    drop(rel);
+    match solved {
+        Ok(solved) => named_existence(alloc, asked, &branch.truths, &solved),
+        Err(fault) => refused_existence(fault),
+    }
+}
+
+fn refused_existence(fault: ChooseFault) -> Result<ExistenceAnswer, NoMemory>
+    ensures { IfOk result (IsRefusedExistence fault) }
+{
+    match fault {
+        ChooseFault::Refused(refusal) => Ok(ExistenceAnswer::Undecided(Doubt::Refused(refusal))),
+        ChooseFault::NoMemory => Err(NoMemory),
+    }
+}
+
+fn named_existence(
+    alloc: Global,
+    asked: &Asked<'_>,
+    truths: &[TruthAt],
+    solved: &Solved,
+) -> Result<ExistenceAnswer, NoMemory>
+    requires { solved.now.scope.items ≡ asked.now.scope.now }
+    ensures { IfOk result (λ told. (own : ExistenceAnswer) × IsExistenceOf solved.now own
+        × NamesExistence (named_by asked.now truths.now solved.now) own told) }
+{
+    let params = parameters(alloc, solved)?;
+    match existence(alloc, solved)? {
+        ExistenceAnswer::Always => Ok(ExistenceAnswer::Always),
+        ExistenceAnswer::Missing(sample) => {
+            let named = named_sample(alloc, asked, truths, &params, &sample)?;
+            Ok(ExistenceAnswer::Missing(named))
+        }
+        ExistenceAnswer::Undecided(doubt) => Ok(ExistenceAnswer::Undecided(doubt)),
+    }
+}
+
+// Whether two solutions of this branch never differ in what is given out.
+fn branch_uniqueness(
+    alloc: Global,
+    asked: &Asked<'_>,
+    branch: &Branch,
+) -> Result<UniquenessAnswer, NoMemory>
+    requires { All IsOutput asked.now.outputs.now }
+    ensures { IfOk result (IsBranchUniqueness (asked_view asked.now) (told_branch branch.now)) }
+{
+    match solved_over(alloc, asked, &branch.relation) {
+        Ok(solved) => named_uniqueness(alloc, asked, &branch.truths, &solved),
+        Err(fault) => refused_uniqueness(fault),
+    }
+}
+
+fn refused_uniqueness(fault: ChooseFault) -> Result<UniquenessAnswer, NoMemory>
+    ensures { IfOk result (IsRefusedUniqueness fault) }
+{
+    match fault {
+        ChooseFault::Refused(refusal) => Ok(UniquenessAnswer::Undecided(Doubt::Refused(refusal))),
+        ChooseFault::NoMemory => Err(NoMemory),
+    }
+}
+
+fn named_uniqueness(
+    alloc: Global,
+    asked: &Asked<'_>,
+    truths: &[TruthAt],
+    solved: &Solved,
+) -> Result<UniquenessAnswer, NoMemory>
+    requires { solved.now.scope.items ≡ asked.now.scope.now }
+    ensures { IfOk result (λ told. (own : UniquenessAnswer) × IsUniquenessOf solved.now (length asked.now.shown.now) own
+        × NamesUniqueness (named_by asked.now truths.now solved.now) asked.now.shown.now own told) }
+{
+    let params = parameters(alloc, solved)?;
+    match uniqueness(alloc, solved, asked.shown.len())? {
+        UniquenessAnswer::Unique => Ok(UniquenessAnswer::Unique),
+        UniquenessAnswer::Two {
+            sample,
+            first,
+            second,
+        } => {
+            let sample = named_sample(alloc, asked, truths, &params, &sample)?;
+            let first = shown_values(alloc, asked.shown, &first)?;
+            let second = shown_values(alloc, asked.shown, &second)?;
+            Ok(UniquenessAnswer::Two {
+                sample,
+                first,
+                second,
+            })
+        }
+        UniquenessAnswer::Undecided(doubt) => Ok(UniquenessAnswer::Undecided(doubt)),
+    }
+}
+
+// ---- all branches
+/// Whether each input for which the condition holds has a solution: over the branches in order the
+/// first sample, else the first doubt.
+pub(crate) fn told_existence(
+    alloc: Global,
+    asked: &Asked<'_>,
+    branches: &[Branch],
+) -> Result<ExistenceAnswer, NoMemory>
+    requires { All IsOutput asked.now.outputs.now }
+    ensures { IfOk result (ComeTo (IsBranchExistence (asked_view asked.now)) first_existence_of Always (map told_branch branches.now)) }
+{
+    let mut answer = ExistenceAnswer::Always;
+    let mut rest = branches;
+    while let Some((branch, more)) = rest.split_first() {
+        match branch_existence(alloc, asked, branch) {
+            Ok(told) => answer = first_existence(answer, told),
+            Err(fault) => return Err(without(answer, fault)),
+        }
+        rest = more;
+    }
+    Ok(answer)
+}
+
+// Of two answers the first sample, else the first doubt.
+fn first_existence(before: ExistenceAnswer, after: ExistenceAnswer) -> ExistenceAnswer
+    ensures { result ≡ first_existence_of before after }
+{
+    match before {
+        ExistenceAnswer::Missing(sample) => ExistenceAnswer::Missing(sample),
+        ExistenceAnswer::Always => after,
+        ExistenceAnswer::Undecided(doubt) => missing_or(after, doubt),
+    }
+}
+
+fn missing_or(after: ExistenceAnswer, doubt: Doubt) -> ExistenceAnswer
+    ensures { result ≡ first_existence_of (ExistenceAnswer.Undecided doubt) after }
+{
+    match after {
+        ExistenceAnswer::Missing(sample) => ExistenceAnswer::Missing(sample),
+        ExistenceAnswer::Always | ExistenceAnswer::Undecided(_) => {
+            ExistenceAnswer::Undecided(doubt)
+        }
+    }
+}
+
+/// Whether solutions never differ in what is given out: over the branches in order the first two that
+/// do, else the first doubt.
+pub(crate) fn told_uniqueness(
+    alloc: Global,
+    asked: &Asked<'_>,
+    branches: &[Branch],
+) -> Result<UniquenessAnswer, NoMemory>
+    requires { All IsOutput asked.now.outputs.now }
+    ensures { IfOk result (ComeTo (IsBranchUniqueness (asked_view asked.now)) first_uniqueness_of Unique (map told_branch branches.now)) }
+{
+    let mut answer = UniquenessAnswer::Unique;
+    let mut rest = branches;
+    while let Some((branch, more)) = rest.split_first() {
+        match branch_uniqueness(alloc, asked, branch) {
+            Ok(told) => answer = first_uniqueness(answer, told),
+            Err(fault) => return Err(without(answer, fault)),
+        }
+        rest = more;
+    }
+    Ok(answer)
+}
+
+// Of two answers the first with two solutions, else the first doubt.
+fn first_uniqueness(before: UniquenessAnswer, after: UniquenessAnswer) -> UniquenessAnswer
+    ensures { result ≡ first_uniqueness_of before after }
+{
+    match before {
+        UniquenessAnswer::Two {
+            sample,
+            first,
+            second,
+        } => UniquenessAnswer::Two {
+            sample,
+            first,
+            second,
+        },
+        UniquenessAnswer::Unique => after,
+        UniquenessAnswer::Undecided(doubt) => two_or(after, doubt),
+    }
+}
+
+fn two_or(after: UniquenessAnswer, doubt: Doubt) -> UniquenessAnswer
+    ensures { result ≡ first_uniqueness_of (UniquenessAnswer.Undecided doubt) after }
+{
+    match after {
+        UniquenessAnswer::Two {
+            sample,
+            first,
+            second,
+        } => UniquenessAnswer::Two {
+            sample,
+            first,
+            second,
+        },
+        UniquenessAnswer::Unique | UniquenessAnswer::Undecided(_) => {
+            UniquenessAnswer::Undecided(doubt)
+        }
+    }
+}
