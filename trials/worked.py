@@ -60,15 +60,17 @@ def of_source(name: str, text: bytes, given: bytes) -> list[Worked]:
 def worked_runs() -> list[Worked]:
     """The worked runs, by each command that takes them.
 
-    They are seconds, a set that is split, remainders, a match, a target, a workload, a product of an input, and steps.
+    They are seconds, a set that is split, remainders, a match, a source of edition 3, a target, a workload, a product of an input, and steps.
     """
     seconds, given = example("seconds"), lines("seconds").read_bytes()
+    parcel = example("parcel")
     remainders = case("compile-remainders-plain", "file")
     return [
         *of_source("seconds", seconds, given),
         *of_source("splitting", SPLIT, SETS),
         *of_source("remainders", remainders, case("exec-remainders", "input")),
         *of_source("match", MATCH, b"4\n5\n7\n-3\nx\n"),
+        *of_source("parcel", parcel, lines("parcel").read_bytes()),
         Worked("run seconds --plain --stats", ("run", "file", "--plain", "--stats"), seconds, given),
         Worked("exec seconds", ("exec", "file"), case("exec-seconds", "file"), case("exec-seconds", "input")),
         Worked("exec remainders", ("exec", "file"), case("exec-remainders", "file"), case("exec-remainders", "input")),
@@ -77,6 +79,8 @@ def worked_runs() -> list[Worked]:
         Worked("run product", ("run", "file"), PRODUCT, b"3 12\n3 10\n0 5\n-4 12\n"),
         Worked("prove seconds", ("prove", "file"), seconds),
         Worked("prove remainders", ("prove", "file"), remainders),
+        Worked("prove parcel", ("prove", "file"), parcel),
         Worked("verify seconds", ("verify", "file", "steps"), seconds, steps=steps("seconds")),
+        Worked("verify parcel", ("verify", "file", "steps"), parcel, steps=steps("parcel")),
         Worked("verify rounding", ("verify", "file", "steps"), example("even"), steps=steps("steps/other")),
     ]
