@@ -136,11 +136,13 @@ inner_does c name given before after text f e told ends file none same not_file 
 }
 
 -- memory ran out before a text was there
-pub memory_does : (c : Command) (name : List ℕ) (given : List Told) (before after : Outside) → names_of c ≡ name ∷ [] → FileRead c name before.shelf after.shelf →
+pub memory_does : (c : Command) (name : List ℕ) (given : List Told) (before after : Outside) → names_of c ≡ name ∷ [] →
+    FileRead c name before.shelf after.shelf →
     Untouched before after →
     ((other : List ℕ) → after.shelf.faults other ≡ before.shelf.faults other) → Does c given given before after (Err fault.NoMemory)
 memory_does c name given before after e file none same =
-    inner_does c name given before after (left_of (before.shelf.texts name)) fault.NoMemory e (left_told (before.shelf.texts name)) (inr (none_written before after none)) file none same (λ i. cc)
+    inner_does c name given before after (left_of (before.shelf.texts name)) fault.NoMemory e (left_told (before.shelf.texts name))
+    (inr (none_written before after none)) file none same (λ i. cc)
     (λ i. cc) (λ i. cc)
 
 -- a target past the largest limit is past its own

@@ -46,7 +46,8 @@ returns-in-Err-Failed-clause-does g c =
 pub returns-in-Err-Failed-clause-order : goal.returns-in-Err-Failed-clause-order
 returns-in-Err-Failed-clause-order g c =
     let is = c.in-Err-Failed.field-0-is in
-    steps_in_order _ _ _ _ _ _ _ c.fetch_program.ensures.fetched c.in_ok-program.ensures.asked c.in_ok-program.ensures.same (λ e. c.in-Err-Failed.ensures.failed (rw is refl))
+    steps_in_order _ _ _ _ _ _ _ c.fetch_program.ensures.fetched c.in_ok-program.ensures.asked c.in_ok-program.ensures.same
+    (λ e. c.in-Err-Failed.ensures.failed (rw is refl))
 
 -- its text is too long
 pub returns-in-Err-TooLong-clause-does : goal.returns-in-Err-TooLong-clause-does
@@ -68,7 +69,8 @@ returns-in-Err-TooLong-clause-does g c =
     (rw (most, c.fetch_program.ensures.fetched.texts c.args.steps.now) at (c.in-Err-TooLong.ensures.long (rw is refl)))
 
 pub returns-in-Err-TooLong-clause-order : goal.returns-in-Err-TooLong-clause-order
-returns-in-Err-TooLong-clause-order g c = steps_in_order _ _ _ _ _ _ _ c.fetch_program.ensures.fetched c.in_ok-program.ensures.asked c.in_ok-program.ensures.same (λ e. cc)
+returns-in-Err-TooLong-clause-order g c =
+    steps_in_order _ _ _ _ _ _ _ c.fetch_program.ensures.fetched c.in_ok-program.ensures.asked c.in_ok-program.ensures.same (λ e. cc)
 
 -- memory ran out
 pub returns-clause-does : goal.returns-clause-does
