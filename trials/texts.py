@@ -2,17 +2,19 @@
 
 from __future__ import annotations
 
-import re
 from collections.abc import Iterator, Sequence
 from dataclasses import dataclass
 from typing import Any
 
+from harness.steps import verified_lines
 from worked import SPLIT
 
 TEXT = 1 << 20
+WRITTEN = 1 << 26
 LINE = 1 << 16
 INPUT = 1 << 24
 MAX = 2**127 - 1
+HEADER = b"comfusy 3\n"
 SYNTAX = "line {} column {}: syntax\n"
 ILL_TYPED = "target not well typed\n"
 PAST = "choose 1: coefficient past 128 bits\n"
@@ -236,6 +238,15 @@ def targets() -> Iterator[Trial]:
     text = b"main (): set = fresh({}, %d)" % MAX
     yield target("a fresh set of MAX elements", text, input=b"\n", status=12, said="no memory\n")
     yield target("the last variable of all", b"main (): int = v4294967295", status=7, said=ILL_TYPED)
+    yield from long_targets(HEADER + front)
+
+
+def long_targets(front: bytes) -> Iterator[Trial]:
+    """Targets of edition 3 at the limit of their length."""
+    yield target("a byte too long of edition 3, exec", HEADER + b" " * (WRITTEN + 1 - len(HEADER)), status=6, said="text too long\n")
+    yield target("opening parentheses of edition 3, exec", filled(HEADER, b"(", size=WRITTEN), **refused(2, 1))
+    text = filled(front, b"arm [] { need (v0 == 1); give 1 } ", b"arm [] { give 2 } }", WRITTEN)
+    yield target("arms to the end of the text of edition 3", text, **answers(b"0\n", b"2\n"))
 
 
 def inputs() -> Iterator[Trial]:
@@ -244,6 +255,8 @@ def inputs() -> Iterator[Trial]:
     yield source("16 MiB in one line", number, **answers(b"1" * INPUT, b"line too long\n"))
     yield source("a byte more than 16 MiB in one line", number, input=b"1" * (INPUT + 1), status=11, said="input too long\n")
     yield source("16 MiB of line feeds", program(b"", b"int", b"7"), **answers(b"\n" * INPUT, b"7\n", INPUT))
+    yield source("64 MiB in one line of edition 3", HEADER + number, **answers(b"1" * (4 * INPUT), b"line too long\n"))
+    yield source("a byte more than 16 MiB of line feeds, edition 3", HEADER + program(b"", b"int", b"7"), **answers(b"\n" * (INPUT + 1), b"7\n", INPUT + 1))
     yield source("16 MiB of bad lines", number, **answers(b"x\n" * (INPUT // 2), b"bad input\n", INPUT // 2))
     lines = INPUT // (LINE + 1)
     for name, line, reply in (
@@ -457,6 +470,11 @@ def steps_files() -> Iterator[Trial]:
     blocks = filled(b"", b"choose 7{}main():int=0 ")
     yield steps("45,590 blocks too many", program(b"", b"int", b"7"), blocks, **rejected(7, 0, 0, "wrong blocks"))
     yield steps("174,755 cases", ROUNDING, filled(b"choose 1 { ", b"case{}", b" } main (int, int): int = 0"), **rejected(1, 0, 0, "wrong blocks"))
+    source_of_three = HEADER + ROUNDING
+    yield steps("a byte too long of edition 3, verify", source_of_three, b" " * (WRITTEN + 1), status=6, said="steps text too long\n")
+    yield steps("opening parentheses of edition 3, verify", source_of_three, b"(" * WRITTEN, **refused_steps(1, 1))
+    text = filled(b"choose 1 (p = true", b", p = true", b") {} main(): int = 0", WRITTEN)
+    yield steps("truth variables to the end of the text", source_of_three, text, **rejected(1, 0, 0, "wrong blocks"))
     yield from many_steps()
 
 
@@ -464,6 +482,8 @@ def many_steps() -> Iterator[Trial]:
     """Very many steps, each of which applies."""
     cleans = filled(FRONT, b"clean;", BEHIND)
     yield steps("clean, 174,754 times", ROUNDING, cleans, **rejected(1, 1, cleans.count(b";") + 1, "not finished"))
+    cleans = filled(FRONT, b"clean;", BEHIND, WRITTEN)
+    yield steps("clean, 11,184,802 times", HEADER + ROUNDING, cleans, **rejected(1, 1, cleans.count(b";") + 1, "not finished"))
     text = program(b"a: int", b"(int, int)", b"choose (x: int, y: int) where x + y == a")
     behind = b" } } main (int): (int, int) = (0, 0)"
     for name, factors, count, why in (
@@ -504,12 +524,11 @@ def proofs() -> Iterator[Trial]:
 
 
 def verified(trial: Trial, proved: bytes) -> Trial:
-    """`verify` on what `prove` wrote in a trial: a line for each block, or that it is too long."""
+    """`verify` on what `prove` wrote in a trial: a line for each block, or that it is too long, which it never is of edition 3."""
     name = trial.name.replace(", prove", ", verify")
-    if len(proved) > TEXT:
+    if len(proved) > TEXT and not trial.text.startswith(HEADER):
         return steps(name, trial.text, proved, status=6, said="steps text too long\n")
-    numbers = re.findall(rb"^choose (\d+) {$", proved, re.M)
-    return steps(name, trial.text, proved, wrote=(b"".join(b"choose %s: verified\n" % number for number in numbers), 1))
+    return steps(name, trial.text, proved, wrote=(verified_lines(proved), 1))
 
 
 def trials() -> Iterator[Trial]:
