@@ -12,6 +12,7 @@ from dataclasses import dataclass
 from functools import partial
 from itertools import product
 from pathlib import Path
+from typing import IO
 
 from harness.checks import Check, ended, equal
 from harness.jobs import Job
@@ -180,8 +181,7 @@ def try_input(command: str, text: bytes, room: Room) -> Iterator[Check]:
         room.put("file", front + text)
         name = f"long-texts, {command} of edition {edition}"
         with open(room.folder / "out", "wb") as out, open(room.folder / "err", "wb") as err:
-            words = [room.program, command, room.folder / "file"]
-            child = subprocess.Popen(words, stdin=subprocess.PIPE, stdout=out, stderr=err)
+            child = subprocess.Popen([room.program, command, room.folder / "file"], stdin=subprocess.PIPE, stdout=out, stderr=err, bufsize=0)
             grew = fed(child)
             status = child.wait(MOST_SECONDS)
         lines = BLOCKS * 1024 if edition == 3 else INPUT_LIMIT // 1024
@@ -192,18 +192,22 @@ def try_input(command: str, text: bytes, room: Room) -> Iterator[Check]:
 
 def fed(child: subprocess.Popen[bytes]) -> int | None:
     """Gives all blocks to a program, and answers how its memory grew on the way; none where it stops reading before."""
-    try:
-        child.stdin.write(BLOCK)
-        child.stdin.flush()
-        first = resident(child)
-        for _ in range(BLOCKS - 1):
-            child.stdin.write(BLOCK)
-            child.stdin.flush()
-        grew = resident(child) - first
-        child.stdin.close()
-    except (BrokenPipeError, StopIteration):
-        return None
-    return grew
+    with child.stdin:
+        try:
+            put(child.stdin, BLOCK)
+            first = resident(child)
+            for _ in range(BLOCKS - 1):
+                put(child.stdin, BLOCK)
+            return resident(child) - first
+        except (BrokenPipeError, StopIteration):
+            return None
+
+
+def put(stream: IO[bytes], text: bytes) -> None:
+    """Writes all bytes of a text to a pipe."""
+    rest = memoryview(text)
+    while rest:
+        rest = rest[stream.write(rest) :]
 
 
 def jobs() -> Iterator[Job]:
