@@ -238,15 +238,6 @@ def targets() -> Iterator[Trial]:
     text = b"main (): set = fresh({}, %d)" % MAX
     yield target("a fresh set of MAX elements", text, input=b"\n", status=12, said="no memory\n")
     yield target("the last variable of all", b"main (): int = v4294967295", status=7, said=ILL_TYPED)
-    yield from long_targets(HEADER + front)
-
-
-def long_targets(front: bytes) -> Iterator[Trial]:
-    """Targets of edition 3 at the limit of their length."""
-    yield target("a byte too long of edition 3, exec", HEADER + b" " * (WRITTEN + 1 - len(HEADER)), status=6, said="text too long\n")
-    yield target("opening parentheses of edition 3, exec", filled(HEADER, b"(", size=WRITTEN), **refused(2, 1))
-    text = filled(front, b"arm [] { need (v0 == 1); give 1 } ", b"arm [] { give 2 } }", WRITTEN)
-    yield target("arms to the end of the text of edition 3", text, **answers(b"0\n", b"2\n"))
 
 
 def inputs() -> Iterator[Trial]:
@@ -255,8 +246,6 @@ def inputs() -> Iterator[Trial]:
     yield source("16 MiB in one line", number, **answers(b"1" * INPUT, b"line too long\n"))
     yield source("a byte more than 16 MiB in one line", number, input=b"1" * (INPUT + 1), status=11, said="input too long\n")
     yield source("16 MiB of line feeds", program(b"", b"int", b"7"), **answers(b"\n" * INPUT, b"7\n", INPUT))
-    yield source("64 MiB in one line of edition 3", HEADER + number, **answers(b"1" * (4 * INPUT), b"line too long\n"))
-    yield source("a byte more than 16 MiB of line feeds, edition 3", HEADER + program(b"", b"int", b"7"), **answers(b"\n" * (INPUT + 1), b"7\n", INPUT + 1))
     yield source("16 MiB of bad lines", number, **answers(b"x\n" * (INPUT // 2), b"bad input\n", INPUT // 2))
     lines = INPUT // (LINE + 1)
     for name, line, reply in (
@@ -470,11 +459,6 @@ def steps_files() -> Iterator[Trial]:
     blocks = filled(b"", b"choose 7{}main():int=0 ")
     yield steps("45,590 blocks too many", program(b"", b"int", b"7"), blocks, **rejected(7, 0, 0, "wrong blocks"))
     yield steps("174,755 cases", ROUNDING, filled(b"choose 1 { ", b"case{}", b" } main (int, int): int = 0"), **rejected(1, 0, 0, "wrong blocks"))
-    source_of_three = HEADER + ROUNDING
-    yield steps("a byte too long of edition 3, verify", source_of_three, b" " * (WRITTEN + 1), status=6, said="steps text too long\n")
-    yield steps("opening parentheses of edition 3, verify", source_of_three, b"(" * WRITTEN, **refused_steps(1, 1))
-    text = filled(b"choose 1 (p = true", b", p = true", b") {} main(): int = 0", WRITTEN)
-    yield steps("truth variables to the end of the text", source_of_three, text, **rejected(1, 0, 0, "wrong blocks"))
     yield from many_steps()
 
 
@@ -482,8 +466,6 @@ def many_steps() -> Iterator[Trial]:
     """Very many steps, each of which applies."""
     cleans = filled(FRONT, b"clean;", BEHIND)
     yield steps("clean, 174,754 times", ROUNDING, cleans, **rejected(1, 1, cleans.count(b";") + 1, "not finished"))
-    cleans = filled(FRONT, b"clean;", BEHIND, WRITTEN)
-    yield steps("clean, 11,184,802 times", HEADER + ROUNDING, cleans, **rejected(1, 1, cleans.count(b";") + 1, "not finished"))
     text = program(b"a: int", b"(int, int)", b"choose (x: int, y: int) where x + y == a")
     behind = b" } } main (int): (int, int) = (0, 0)"
     for name, factors, count, why in (
@@ -531,7 +513,27 @@ def verified(trial: Trial, proved: bytes) -> Trial:
     return steps(name, trial.text, proved, wrote=(verified_lines(proved), 1))
 
 
+def of_edition_three() -> Iterator[Trial]:
+    """Inputs, targets and steps of edition 3 past the limits of language 2, and at their own."""
+    number = HEADER + program(b"a: int", b"int", b"a")
+    yield source("64 MiB in one line of edition 3", number, **answers(b"1" * (4 * INPUT), b"line too long\n"))
+    yield source("a byte more than 16 MiB of line feeds", HEADER + program(b"", b"int", b"7"), **answers(b"\n" * (INPUT + 1), b"7\n", INPUT + 1))
+    yield target("a byte too long of edition 3, exec", HEADER + b" " * (WRITTEN + 1 - len(HEADER)), status=6, said="text too long\n")
+    yield target("opening parentheses of edition 3, exec", filled(HEADER, b"(", size=WRITTEN), **refused(2, 1))
+    front = HEADER + b"main (int): int = solve 1 { "
+    text = filled(front, b"arm [] { need (v0 == 1); give 1 } ", b"arm [] { give 2 } }", WRITTEN)
+    yield target("arms to the end of the text of edition 3", text, **answers(b"0\n", b"2\n"))
+    rounding = HEADER + ROUNDING
+    yield steps("a byte too long of edition 3, verify", rounding, b" " * (WRITTEN + 1), status=6, said="steps text too long\n")
+    yield steps("opening parentheses of edition 3, verify", rounding, b"(" * WRITTEN, **refused_steps(1, 1))
+    text = filled(b"choose 1 (p = true", b", p = true", b") {} main(): int = 0", WRITTEN)
+    yield steps("truth variables to the end of the text", rounding, text, **rejected(1, 0, 0, "wrong blocks"))
+    cleans = filled(FRONT, b"clean;", BEHIND, WRITTEN)
+    yield steps("clean, 11,184,802 times", rounding, cleans, **rejected(1, 1, cleans.count(b";") + 1, "not finished"))
+
+
 def trials() -> Iterator[Trial]:
+    """All trials; those of edition 3 come last, since they make this script large, and memory is told from its size on."""
     groups = bytes_and_tokens, depths, functions, many_names, matches, targets, inputs, sets, chooses, late_trials, questions, steps_files, proofs
-    for group in groups:
+    for group in *groups, of_edition_three:
         yield from group()
