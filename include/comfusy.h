@@ -19,8 +19,8 @@ enum {
   COMFUSY_TYPES = 7,       /* a rule on names or types is broken */
   COMFUSY_NOT_LINEAR = 8,  /* a relation is not linear */
   COMFUSY_PAST = 9,        /* a coefficient passes the limit of numbers */
-  COMFUSY_LIMIT = 10,      /* a counted limit is passed */
-  COMFUSY_INPUT_LONG = 11, /* the input is too long */
+  COMFUSY_LIMIT = 10,      /* a counted limit is passed, or that of what is written */
+  COMFUSY_INPUT_LONG = 11, /* the input is too long, in language 2 */
   COMFUSY_NO_MEMORY = 12,  /* memory ran out; what is in the buffers may be cut */
   COMFUSY_REJECTED = 13    /* steps are not accepted */
 };

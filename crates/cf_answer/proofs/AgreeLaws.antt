@@ -1,25 +1,21 @@
 -- The commands agree with each other.
-use Rattle.std.proofs.Common.{◌≡◌, ap, subst, refl, sym, ℕ, ◌-◌, ◌^◌, ◌≤◌, not, List, [], ◌∷◌, length, map}
+use Rattle.std.proofs.Common.{◌≡◌, ap, subst, refl, ℕ, ◌-◌, ◌^◌, ◌≤◌, not, List, [], ◌∷◌, length, map}
 use Rattle.cf_io.specs.Limits.{line_limit}
 use Rattle.cf_lex.specs.Editions.{edition_of}
-use Rattle.cf_tree.specs.CodeTree.{CodeTree}
-use Rattle.cf_tree.specs.CodeView.{code_tree}
 use Rattle.cf_tree.specs.ChooseTree.{ChooseTree}
 use Rattle.cf_tree.specs.DefView.{TargetTree, target_tree}
-use Rattle.cf_tree.specs.declared.base.Base.{Base}
-use Rattle.cf_tree.specs.declared.base.Edition.TheVariants.{Two}
 use Rattle.cf_tree.specs.declared.target.RawTarget.{RawTarget}
 use Rattle.cf_target.proofs.Only.{one_law}
 use Rattle.cf_target.specs.Spelling.{IsTarget}
 use Rattle.cf_eval.specs.Replies.{IsReply, too_long, bad_input, meaning}
-use Rattle.cf_pass.specs.Passes.{Told}
 use Rattle.cf_steps.specs.Blocks.{block_tree}
 use Rattle.cf_steps.specs.declared.block.Block.{Block}
 use Rattle.cf_warn.specs.declared.answer.ExistenceAnswer.TheVariants.{Always, Missing, Undecided}
 use Rattle.cf_words.specs.Commands.{exec}
 use Rattle.cf_answer.specs.Agreeing.{ProvedIsVerified, CompiledIsRun, NeedsAreChecked}
 use Rattle.cf_answer.specs.Certificates.{OneForEach, IsProofOf, IsTraced}
-use Rattle.cf_answer.specs.Owed.{by_target, IsReplyBy, AllReplied, AreReplies, compiled}
+use Rattle.cf_answer.specs.Limits.{of_target, most_of}
+use Rattle.cf_answer.specs.Owed.{by_target, AreReplies, compiled}
 use Rattle.cf_answer.specs.Passes.{applied}
 use Rattle.cf_answer.specs.Sources.{Spelled, IsTypedTarget}
 use Rattle.cf_answer.proofs.CauseLemmas.{trees_agree}
@@ -36,13 +32,14 @@ traced_prove (q ∷ qs) [] h = absurd h
 traced_prove (q ∷ qs) (b ∷ bs) h = (h.0.proves, traced_prove qs bs h.1)
 
 pub proved_is_verified : ProvedIsVerified
-proved_is_verified name other source given last ls text (typed, s, (bs, traced, is, back)) short =
-    (_, (typed, s, (map block_tree bs, (back.tokens, back.end, (short, back.lexed), back.spelled), traced_prove _ bs traced), refl))
+proved_is_verified name other source given last ls text (cs, b, (bs, traced, heads, is, back)) short =
+    (_, (cs, b, (map block_tree bs, (back.tokens, back.end, (short, back.lexed), back.spelled), heads, traced_prove _ bs traced), refl))
 
 -- ---- what `compile` prints
 -- a text spells one target
-target_once : (text : List ℕ) (t u : TargetTree) → Spelled Two (IsTarget (edition_of text)) text t → Spelled Two (IsTarget (edition_of text)) text u → t ≡ u
-target_once text t u h i = trees_agree Two (IsTarget (edition_of text)) (one_law (edition_of text)) text t u h i
+target_once : (text : List ℕ) (t u : TargetTree) → Spelled (of_target (edition_of text)) (IsTarget (edition_of text)) text t →
+    Spelled (of_target (edition_of text)) (IsTarget (edition_of text)) text u → t ≡ u
+target_once text t u h i = trees_agree (of_target (edition_of text)) (IsTarget (edition_of text)) (one_law (edition_of text)) text t u h i
 
 -- a reply is told by the parameters and the code
 reply_by_tree : (t u : RawTarget) → target_tree u ≡ target_tree t → (line reply : List ℕ) → IsReply line_limit (2 ^ 127 - 1) u line reply →
@@ -61,8 +58,9 @@ replies_by_tree t u same (line ∷ ls) out h = (h.0, h.1, h.2, reply_by_tree t u
 pub compiled_is_run : CompiledIsRun
 compiled_is_run flags name source given last ls text (t, c, p) short =
     let same = edition_read text (edition_of source) p.reads_back.of_edition in
+    let fits : length text ≤ most_of (of_target (edition_of text)) = subst (λ e. length text ≤ most_of (of_target e)) same short in
     let typed : IsTypedTarget text (target_tree t) = (
-      target_in (edition_of source) text (target_tree t) p.reads_back.tokens p.reads_back.end same (short, p.reads_back.lexed) p.reads_back.spelled,
+      target_in (edition_of source) text (target_tree t) p.reads_back.tokens p.reads_back.end same (fits, p.reads_back.lexed) p.reads_back.spelled,
       c.0.2.typed,
     ) in
     record {
@@ -74,6 +72,6 @@ compiled_is_run flags name source given last ls text (t, c, p) short =
 
 -- ---- what `pre` writes, and what `check` finds
 pub needs_are_checked : NeedsAreChecked
-needs_are_checked q text Always p e = λ env h. (p.holds env h).1 (e.1 env h)
-needs_are_checked q text (Missing sample) p e = λ env at h. let xs = (p.holds env at.bases).0 h in e.2.unsolved env at xs.0 xs.1
-needs_are_checked q text (Undecided d) p e = tt
+needs_are_checked q branch text Always p e = λ env h. (p.holds env h).1 (e.1 env h)
+needs_are_checked q branch text (Missing sample) p e = λ env at h. let xs = (p.holds env at.bases).0 h in e.2.unsolved env at xs.0 xs.1
+needs_are_checked q branch text (Undecided d) p e = tt

@@ -1,18 +1,20 @@
 -- From the answer on a text to how the command ends.
-use Rattle.std.proofs.Common.{◌≡◌, ◌∙◌, inl, inr, sym, ap, subst, refl, ℕ, ◌≤◌, ◌+◌, true, false, List, [], ◌++◌, length, Option, arith, append-nil, append_assoc, nat_le}
-use Rattle.std.proofs.lemmas.Bool.Decides.{nat_tests}
-use Rattle.std.specs.Prelude.{◌⊎◌, Result, Ok, Err, IfErr, OnOk, take}
+use Rattle.std.proofs.Common.{◌≡◌, ◌∙◌, inl, inr, sym, ap, subst, refl, ℕ, ◌-◌, ◌≤◌, ◌+◌, true, false, List, [], ◌++◌, length, Option, Some, None, arith, append-nil, append_assoc}
+use Rattle.std.specs.Prelude.{◌⊎◌, Result, Ok, Err, IfErr, OnOk}
 use Rattle.std.specs.Io.KnownBytes.{Appends, Consumes}
 use Rattle.std.proofs.KnownBytes.{Appends-trans}
-use Rattle.cf_io.specs.Bytes.{TookPrefix, TookFront}
-use Rattle.cf_io.specs.Limits.{input_limit}
+use Rattle.cf_io.specs.Bytes.{TookPrefix}
+use Rattle.cf_io.specs.Cut.{within}
+use Rattle.cf_io.specs.Limits.{IsWithin, IsPast}
 use Rattle.cf_io.specs.Lines.{lines, ended}
 use Rattle.cf_io.specs.Seen.{SinkSeen, SourceSeen}
 use Rattle.cf_pass.specs.Passes.{Told}
-use Rattle.cf_words.specs.Commands.{Command}
-use Rattle.cf_answer.specs.Commands.{reads_input, calls_passes}
+use Rattle.cf_words.specs.Commands.{Command, compile, prove}
+use Rattle.cf_answer.specs.Commands.{reads_input, calls_passes, output_most}
 use Rattle.cf_answer.specs.Ends.{Job, input_for, answered_lines, behind_lines, Reads, IsReadUp, Wrote, IsStopped, Ends, AreSpared, AnswersOn}
-use Rattle.cf_answer.specs.Outside.{Streams, streams, AreTold, Counts}
+use Rattle.cf_answer.specs.Limits.{edition_for, input_most}
+use Rattle.cf_tree.specs.declared.base.Edition.{Edition}
+use Rattle.cf_answer.specs.Outside.{Streams, streams, AreTold, Counts, one_past}
 use Rattle.cf_answer.specs.Owed.{Answerer, AreReplies, Owes}
 use Rattle.cf_answer.specs.Passes.{ArePassed, closing}
 use Rattle.cf_answer.specs.Refusals.{Refuses}
@@ -21,10 +23,10 @@ use Rattle.cf_answer.specs.Steps.{RunsOn, RunsThrough, cut, part, whole, IsOutFa
 use Rattle.cf_answer.specs.declared.fault.Fault.{Fault}
 use Rattle.cf_answer.specs.declared.fault.Fault.TheVariants as fault
 use Rattle.cf_answer.proofs.FaultLemmas.{failed, IsTextFault, refused_fault}
-use Rattle.cf_answer.proofs.OutsideLemmas.{nothing_read, no_fault}
+use Rattle.cf_answer.proofs.OutsideLemmas.{none_within, nothing_read, no_fault}
 use Rattle.cf_answer.proofs.OwedLemmas.{owed_accepted}
 use Rattle.cf_answer.proofs.PassLemmas.{kept_passed}
-use Rattle.cf_answer.proofs.StepLemmas.{left_of, left_told, end_told, short_answered}
+use Rattle.cf_answer.proofs.StepLemmas.{left_of, left_told, end_told, short_answered, test_within}
 
 -- ---- a text that is refused, or for which memory ran out
 
@@ -35,6 +37,7 @@ refused_ends job before after fault.File h r e = absurd h
 refused_ends job before after fault.Input h r e = absurd h
 refused_ends job before after fault.Output h r e = absurd h
 refused_ends job before after fault.InputTooLong h r e = absurd h
+refused_ends job before after fault.OutputTooLong h r e = absurd h
 refused_ends job before after fault.NoMemory h r e = absurd h
 refused_ends job before after f h r e = (r, e)
 
@@ -83,7 +86,7 @@ answers_still c given last files s f p spared still ends = record {
   passed = p;
   spared = spared;
   ends = ends;
-  sparing = nothing_read s.input;
+  sparing = nothing_read (input_most files) s.input;
   input = no_fault s.input.faults s.input.faults (not_input_of f still) refl;
   out = no_fault s.out.faults s.out.faults (not_output_of f still) refl;
   not_usage = not_usage_of f (still_other f still);
@@ -115,35 +118,49 @@ no_input c input e = rw e refl
 all_input : (c : Command) (input : List ℕ) → reads_input c ≡ true → input_for c input ≡ input
 all_input c input e = rw e refl
 
-short_behind : (input end : List ℕ) → length input ≤ input_limit → behind_lines input end ≡ end
-short_behind input end h = let test : nat_le (length input) input_limit ≡ true = grind (arith, nat_tests) in rw test refl
+short_behind : (most : Option ℕ) (input end : List ℕ) → IsWithin most (length input) → behind_lines most input end ≡ end
+short_behind most input end few = rw (test_within most (length input) few) refl
+
+-- what is owed and the closing behind it are within the limit of what is written
+abbrev Fits : Job → List ℕ → Type 0
+Fits job printed = IsWithin (output_most job.command (edition_for job.files)) (length (printed ++ closing job.command job.passes))
 
 -- how it ends where all or a prefix was written
 wrote_all : (job : Job) (before after : Streams) (printed : List ℕ) → reads_input job.command ≡ false → after.input.left ≡ before.input.left →
-    Owes job.command job.files job.given job.passes [] printed →
+    Owes job.command job.files job.given job.passes [] printed → Fits job printed →
     Appends before.out.held after.out.held (printed ++ closing job.command job.passes) → Ends job before after (Ok tt)
-wrote_all job before after printed e same owed took = (
+wrote_all job before after printed e same owed fits took = (
   [],
   subst (λ b. IsReadUp b after.input.left) (sym e) tt,
-  omega arith,
-  record { text = printed; read = subst (λ b. Reads b before.input.left after.input.left []) (sym e) (same, refl); owed = owed; took = took },
+  none_within (input_most job.files),
+  record {
+    text = printed;
+    read = subst (λ b. Reads b before.input.left after.input.left []) (sym e) (same, refl);
+    owed = owed;
+    fits = fits;
+    took = took;
+  },
 )
 
 wrote_prefix : (job : Job) (before after : Streams) (printed : List ℕ) → reads_input job.command ≡ false → after.input.left ≡ before.input.left →
-    Owes job.command job.files job.given job.passes [] printed →
+    Owes job.command job.files job.given job.passes [] printed → Fits job printed →
     TookPrefix before.out.held after.out.held (printed ++ closing job.command job.passes) → IsStopped job before after
-wrote_prefix job before after printed e same owed took =
+wrote_prefix job before after printed e same owed fits took =
+    let most = input_most job.files in
     let rest = left_of after.input.left in
     let none : input_for job.command rest ≡ [] = no_input job.command rest e in (
       [],
       rest,
       left_told after.input.left,
-      subst (λ v. Wrote job before after TookPrefix [] (answered_lines v) (behind_lines v (closing job.command job.passes))) (sym none)
+      subst (λ v. Wrote job before after TookPrefix [] (answered_lines most v) (behind_lines most v (closing job.command job.passes))) (sym none)
           (record {
             text = printed;
             read = subst (λ b. Reads b before.input.left after.input.left []) (sym e) (same, refl);
-            owed = subst (λ ls. Owes job.command job.files job.given job.passes ls printed) (sym (short_answered [] (omega arith))) owed;
-            took = subst (λ v. TookPrefix before.out.held after.out.held (printed ++ v)) (sym (short_behind [] (closing job.command job.passes) (omega arith))) took;
+            owed = subst (λ ls. Owes job.command job.files job.given job.passes ls printed) (sym (short_answered most [] (none_within most))) owed;
+            fits = subst (λ v. IsWithin (output_most job.command (edition_for job.files)) (length (printed ++ v)))
+                (sym (short_behind most [] (closing job.command job.passes) (none_within most))) fits;
+            took = subst (λ v. TookPrefix before.out.held after.out.held (printed ++ v))
+                (sym (short_behind most [] (closing job.command job.passes) (none_within most))) took;
           }),
     )
 
@@ -153,10 +170,12 @@ out_ends job before after f (inr memory) h = subst (λ v. Ends job before after 
 
 written_ends : (job : Job) (before after : Streams) (printed : List ℕ) (answer : Result (Unit {0}) Fault) → reads_input job.command ≡ false →
     after.input.left ≡ before.input.left →
-    Owes job.command job.files job.given job.passes [] printed → OnOk answer (Appends before.out.held after.out.held (printed ++ closing job.command job.passes)) →
+    Owes job.command job.files job.given job.passes [] printed → Fits job printed →
+    OnOk answer (Appends before.out.held after.out.held (printed ++ closing job.command job.passes)) →
     TookPrefix before.out.held after.out.held (printed ++ closing job.command job.passes) → IfErr answer IsOutFault → Ends job before after answer
-written_ends job before after printed (Ok done) e same owed all some is = wrote_all job before after printed e same owed all
-written_ends job before after printed (Err f) e same owed all some is = out_ends job before after f is (wrote_prefix job before after printed e same owed some)
+written_ends job before after printed (Ok done) e same owed fits all some is = wrote_all job before after printed e same owed fits all
+written_ends job before after printed (Err f) e same owed fits all some is =
+    out_ends job before after f is (wrote_prefix job before after printed e same owed fits some)
 
 out_other : (f : Fault) → IsOutFault f → IsOther f
 out_other f (inl out) = subst IsOther (sym out) tt
@@ -186,25 +205,77 @@ pub out_is_late : (answer : Result (Unit {0}) Fault) → IfErr answer IsOutFault
 out_is_late (Ok done) is h = h
 out_is_late (Err f) is h = late_fault f is h
 
-pub written_answers : (c : Command) (given last : List Told) (files : List (List ℕ)) (printed bytes : List ℕ) (input : SourceSeen) (old new : SinkSeen)
+-- a text that is past its limit is not written
+pub printed_unwritten : (Same : Type 0) (answer : Result (Unit {0}) Fault) → IfErr answer (λ f. IsOutFault f ⊎ (f ≡ fault.OutputTooLong)) →
+    (answer ≡ Err fault.OutputTooLong → Same) → IsEarly (status_of answer) → Same
+printed_unwritten Same (Ok done) is same h = absurd h
+printed_unwritten Same (Err f) (inl out) same h = absurd (late_fault f out h)
+printed_unwritten Same (Err f) (inr long) same h = same (ap failed long)
+
+fitted_answers : (c : Command) (given last : List Told) (files : List (List ℕ)) (printed bytes : List ℕ) (input : SourceSeen) (old new : SinkSeen)
     (answer : Result (Unit {0}) Fault) → reads_input c ≡ false →
     ArePassed (calls_passes c) given last → Owes c files given last [] printed → bytes ≡ printed ++ closing c last →
+    IsWithin (output_most c (edition_for files)) (length bytes) →
     OnOk answer (Appends old.held new.held bytes) → TookPrefix old.held new.held bytes → IfErr answer IsOutFault →
     Counts (answer ≡ Err fault.Output) old.faults new.faults → AnswersOn c given last files (streams input old) (streams input new) answer
-written_answers c given last files printed bytes input old new answer e p owed is all some fault count =
+fitted_answers c given last files printed bytes input old new answer e p owed is fits all some fault count =
+    let fits_is : IsWithin (output_most c (edition_for files)) (length (printed ++ closing c last)) =
+    subst (λ v. IsWithin (output_most c (edition_for files)) (length v)) is fits in
     let all_is : OnOk answer (Appends old.held new.held (printed ++ closing c last)) = subst (λ v. OnOk answer (Appends old.held new.held v)) is all in
     let some_is : TookPrefix old.held new.held (printed ++ closing c last) = subst (TookPrefix old.held new.held) is some in
     let never = written_not answer fault in record {
       passed = p;
       spared = λ f r. absurd (owed_accepted c files given last [] printed owed f r);
       ends = written_ends (record { command = c; files = files; given = given; passes = last }) (streams input old) (streams input new) printed answer e refl
-          owed all_is some_is fault;
-      sparing = nothing_read input;
+          owed fits_is all_is some_is fault;
+      sparing = nothing_read (input_most files) input;
       input = no_fault input.faults input.faults never.not_input refl;
       out = count;
       not_usage = never.not_usage;
       not_file = never.not_file;
     }
+
+-- a command whose output has no limit
+pub written_answers : (c : Command) (given last : List Told) (files : List (List ℕ)) (printed bytes : List ℕ) (input : SourceSeen) (old new : SinkSeen)
+    (answer : Result (Unit {0}) Fault) → reads_input c ≡ false → ((edition : Edition) → output_most c edition ≡ None) →
+    ArePassed (calls_passes c) given last → Owes c files given last [] printed → bytes ≡ printed ++ closing c last →
+    OnOk answer (Appends old.held new.held bytes) → TookPrefix old.held new.held bytes → IfErr answer IsOutFault →
+    Counts (answer ≡ Err fault.Output) old.faults new.faults → AnswersOn c given last files (streams input old) (streams input new) answer
+written_answers c given last files printed bytes input old new answer e unlimited p owed is all some fault count =
+    fitted_answers c given last files printed bytes input old new answer e p owed is
+    (subst (λ most. IsWithin most (length bytes)) (sym (unlimited (edition_for files))) tt) all some fault count
+
+-- what is owed is past the limit of what is written: nothing is
+overfull_answers : (c : Command) (given last : List Told) (files : List (List ℕ)) (printed bytes : List ℕ) (s : Streams) →
+    ArePassed (calls_passes c) given last → Owes c files given last [] printed → bytes ≡ printed ++ closing c last →
+    IsPast (output_most c (edition_for files)) (length bytes) → AnswersOn c given last files s s (Err fault.OutputTooLong)
+overfull_answers c given last files printed bytes s p owed is past =
+    answers_still c given last files s fault.OutputTooLong p (λ f r. absurd (owed_accepted c files given last [] printed owed f r)) tt
+    (printed, owed, subst (λ v. IsPast (output_most c (edition_for files)) (length v)) is past, refl)
+
+not_both : (most : Option ℕ) (count : ℕ) → IsWithin most count → IsPast most count → ⊥
+not_both None count few many = many
+not_both (Some most) count few many = omega (arith, few, many)
+
+-- a text that is written where it is within the limit
+pub printed_answers : (c : Command) (given last : List Told) (files : List (List ℕ)) (printed bytes : List ℕ) (input : SourceSeen) (old new : SinkSeen)
+    (answer : Result (Unit {0}) Fault) → reads_input c ≡ false →
+    ArePassed (calls_passes c) given last → Owes c files given last [] printed → bytes ≡ printed ++ closing c last →
+    (answer ≡ Err fault.OutputTooLong) ⊎ IsWithin (output_most c (edition_for files)) (length bytes) →
+    (answer ≡ Err fault.OutputTooLong → IsPast (output_most c (edition_for files)) (length bytes)) → (answer ≡ Err fault.OutputTooLong → new ≡ old) →
+    OnOk answer (Appends old.held new.held bytes) → TookPrefix old.held new.held bytes →
+    IfErr answer (λ f. IsOutFault f ⊎ (f ≡ fault.OutputTooLong)) →
+    Counts (answer ≡ Err fault.Output) old.faults new.faults → AnswersOn c given last files (streams input old) (streams input new) answer
+printed_answers c given last files printed bytes input old new answer e p owed is (inl long) past same all some only count =
+    subst (λ a. AnswersOn c given last files (streams input old) (streams input new) a) (sym long)
+    (subst (λ o. AnswersOn c given last files (streams input old) (streams input o) (Err fault.OutputTooLong)) (sym (same long))
+    (overfull_answers c given last files printed bytes (streams input old) p owed is (past long)))
+printed_answers c given last files printed bytes input old new (Ok done) e p owed is (inr few) past same all some only count =
+    fitted_answers c given last files printed bytes input old new (Ok done) e p owed is few all some tt count
+printed_answers c given last files printed bytes input old new (Err f) e p owed is (inr few) past same all some (inl out) count =
+    fitted_answers c given last files printed bytes input old new (Err f) e p owed is few all some out count
+printed_answers c given last files printed bytes input old new (Err f) e p owed is (inr few) past same all some (inr long) count =
+    absurd (not_both (output_most c (edition_for files)) (length bytes) few (past (ap failed long)))
 
 -- ---- what answers the input
 
@@ -212,6 +283,12 @@ written_answers c given last files printed bytes input old new answer e p owed i
 record AnswersBy (job : Job) (who : Answerer) : Type 0 where
   reads : reads_input job.command ≡ true
   owes : (ls : List (List ℕ)) (replies : List ℕ) → AreReplies who ls replies → Owes job.command job.files job.given job.passes ls replies
+
+-- what such a command writes has no limit
+reads_unlimited : (c : Command) (edition : Edition) (count : ℕ) → reads_input c ≡ true → IsWithin (output_most c edition) count
+reads_unlimited (compile flags file) edition count e = cc
+reads_unlimited (prove file) edition count e = cc
+reads_unlimited c edition count e = tt
 
 wrote_by : (job : Job) (before after : Streams) (Took : Option (List ℕ) → Option (List ℕ) → List ℕ → Type 0) (front : List ℕ) (ls : List (List ℕ))
     (end text : List ℕ) (who : Answerer) →
@@ -221,30 +298,34 @@ wrote_by job before after Took front ls end text who by read replies took = reco
   text = text;
   read = subst (λ b. Reads b before.input.left after.input.left front) (sym by.reads) read;
   owed = by.owes ls text replies;
+  fits = reads_unlimited job.command (edition_for job.files) (length (text ++ end)) by.reads;
   took = took;
 }
 
 -- a prefix of what is owed for what was read and what is left
-stopped_by : (job : Job) (before after : Streams) (front rest text : List ℕ) (who : Answerer) → AnswersBy job who → Consumes before.input.left after.input.left front →
+stopped_by : (job : Job) (before after : Streams) (front rest text : List ℕ) (who : Answerer) → AnswersBy job who →
+    Consumes before.input.left after.input.left front →
     AreTold after.input.left rest →
-    AreReplies who (answered_lines (front ++ rest)) text →
-    TookPrefix before.out.held after.out.held (text ++ behind_lines (front ++ rest) (closing job.command job.passes)) → IsStopped job before after
+    AreReplies who (answered_lines (input_most job.files) (front ++ rest)) text →
+    TookPrefix before.out.held after.out.held (text ++ behind_lines (input_most job.files) (front ++ rest) (closing job.command job.passes)) →
+    IsStopped job before after
 stopped_by job before after front rest text who by read told replies took = (
   front,
   rest,
   told,
-  subst (λ v. Wrote job before after TookPrefix front (answered_lines v) (behind_lines v (closing job.command job.passes)))
+  subst (λ v. Wrote job before after TookPrefix front (answered_lines (input_most job.files) v)
+      (behind_lines (input_most job.files) v (closing job.command job.passes)))
       (sym (all_input job.command (front ++ rest) by.reads))
-      (wrote_by job before after TookPrefix front (answered_lines (front ++ rest)) (behind_lines (front ++ rest) (closing job.command job.passes)) text who by
-      read replies took),
+      (wrote_by job before after TookPrefix front (answered_lines (input_most job.files) (front ++ rest))
+      (behind_lines (input_most job.files) (front ++ rest) (closing job.command job.passes)) text who by read replies took),
 )
 
 cut_ends : (job : Job) (before after : Streams) (who : Answerer) (f : Fault) → AnswersBy job who →
-    RunsOn who before.input.left after.input.left before.out.held after.out.held (Err f) → Ends job before after (Err f)
+    RunsOn who (input_most job.files) before.input.left after.input.left before.out.held after.out.held (Err f) → Ends job before after (Err f)
 cut_ends job before after who fault.InputTooLong by r = (
   r.front,
   r.runs.0,
-  wrote_by job before after Appends r.front (ended (take input_limit r.front)) [] r.runs.1.0 who by r.read r.runs.1.1
+  wrote_by job before after Appends r.front (ended (within (input_most job.files) r.front)) [] r.runs.1.0 who by r.read r.runs.1.1
       (subst (Appends before.out.held after.out.held) (sym (append-nil r.runs.1.0)) r.runs.1.2),
 )
 cut_ends job before after who fault.Input by r = (
@@ -255,32 +336,41 @@ cut_ends job before after who fault.Input by r = (
       (subst (Appends before.out.held after.out.held) (sym (append-nil r.runs.1.0)) r.runs.1.2),
 )
 cut_ends job before after who fault.Output by r =
-    stopped_by job before after r.front r.runs.0 r.runs.2.0 who by r.read r.runs.1 r.runs.2.1 (prefix_more before.out.held after.out.held r.runs.2.0 _ r.runs.2.2)
+    stopped_by job before after r.front r.runs.0 r.runs.2.0 who by r.read r.runs.1 r.runs.2.1
+    (prefix_more before.out.held after.out.held r.runs.2.0 _ r.runs.2.2)
 cut_ends job before after who fault.NoMemory by r =
-    inl (stopped_by job before after r.front r.runs.0 r.runs.2.0 who by r.read r.runs.1 r.runs.2.1 (prefix_more before.out.held after.out.held r.runs.2.0 _ r.runs.2.2))
+    inl (stopped_by job before after r.front r.runs.0 r.runs.2.0 who by r.read r.runs.1 r.runs.2.1
+    (prefix_more before.out.held after.out.held r.runs.2.0 _ r.runs.2.2))
 cut_ends job before after who f by r = absurd r.runs
 
 -- all replies were written, and then a prefix of what stands behind them
 part_ends : (job : Job) (before after : Streams) (who : Answerer) (mid : Option (List ℕ)) → AnswersBy job who →
-    RunsOn who before.input.left after.input.left before.out.held mid (Ok tt) →
+    RunsOn who (input_most job.files) before.input.left after.input.left before.out.held mid (Ok tt) →
     TookPrefix mid after.out.held (closing job.command job.passes) → IsStopped job before after
 part_ends job before after who mid by r (first, rest, is, took) =
+    let most = input_most job.files in
     let text = r.runs.2.0 in
     let end = closing job.command job.passes in
     let same : r.front ++ [] ≡ r.front = append-nil r.front in
     stopped_by job before after r.front [] text who by r.read (end_told after.input.left r.runs.0)
-    (subst (λ v. AreReplies who (answered_lines v) text) (sym same)
-    (subst (λ ls. AreReplies who ls text) (sym (short_answered r.front r.runs.1)) r.runs.2.1))
-    (subst (λ v. TookPrefix before.out.held after.out.held (text ++ behind_lines v end)) (sym same)
-    (subst (λ v. TookPrefix before.out.held after.out.held (text ++ v)) (sym (short_behind r.front end r.runs.1))
-    (text ++ first, rest, ap (λ s. text ++ s) is ∙ sym (append_assoc text first rest), Appends-trans before.out.held mid after.out.held text first r.runs.2.2 took)))
+    (subst (λ v. AreReplies who (answered_lines most v) text) (sym same)
+    (subst (λ ls. AreReplies who ls text) (sym (short_answered most r.front r.runs.1)) r.runs.2.1))
+    (subst (λ v. TookPrefix before.out.held after.out.held (text ++ behind_lines most v end)) (sym same)
+    (subst (λ v. TookPrefix before.out.held after.out.held (text ++ v)) (sym (short_behind most r.front end r.runs.1)) (
+      text ++ first,
+      rest,
+      ap (λ s. text ++ s) is ∙ sym (append_assoc text first rest),
+      Appends-trans before.out.held mid after.out.held text first r.runs.2.2
+          took,
+    )))
 
 through_ends : (job : Job) (before after : Streams) (who : Answerer) (end : List ℕ) (answer : Result (Unit {0}) Fault) → AnswersBy job who →
     end ≡ closing job.command job.passes →
-    RunsThrough who end before.input.left after.input.left before.out.held after.out.held answer → Ends job before after answer
+    RunsThrough who (input_most job.files) end before.input.left after.input.left before.out.held after.out.held answer → Ends job before after answer
 through_ends job before after who end answer by is (cut f e r) = subst (Ends job before after) (sym e) (cut_ends job before after who f by r)
 through_ends job before after who end answer by is (part mid f r e out took) =
-    subst (Ends job before after) (sym e) (out_ends job before after f out (part_ends job before after who mid by r (subst (TookPrefix mid after.out.held) is took)))
+    subst (Ends job before after) (sym e) (out_ends job before after f out
+    (part_ends job before after who mid by r (subst (TookPrefix mid after.out.held) is took)))
 through_ends job before after who end answer by is (whole mid r e took) =
     let text = r.runs.2.0 in
     subst (Ends job before after) (sym e) (
@@ -291,38 +381,40 @@ through_ends job before after who end answer by is (whole mid r e took) =
           (Appends-trans before.out.held mid after.out.held text (closing job.command job.passes) r.runs.2.2 (subst (Appends mid after.out.held) is took)),
     )
 
-runs_other : (who : Answerer) (left still_left old new : Option (List ℕ)) (f : Fault) → RunsOn who left still_left old new (Err f) → IsOther f
-runs_other who left still_left old new fault.Usage r = r.runs
-runs_other who left still_left old new fault.File r = r.runs
-runs_other who left still_left old new f r = tt
+runs_other : (who : Answerer) (most : Option ℕ) (left still_left old new : Option (List ℕ)) (f : Fault) → RunsOn who most left still_left old new (Err f) →
+    IsOther f
+runs_other who most left still_left old new fault.Usage r = r.runs
+runs_other who most left still_left old new fault.File r = r.runs
+runs_other who most left still_left old new f r = tt
 
 -- how much was read, and which answers do not come
-record Bounded (left still_left : Option (List ℕ)) (answer : Result (Unit {0}) Fault) : Type 0 where
-  front : TookFront (input_limit + 1) left still_left
+record Bounded (most : Option ℕ) (left still_left : Option (List ℕ)) (answer : Result (Unit {0}) Fault) : Type 0 where
+  front : (front : List ℕ) × IsWithin (one_past most) (length front) × Consumes left still_left front
   not_usage : answer ≡ Err fault.Usage → ⊥
   not_file : answer ≡ Err fault.File → ⊥
 
-bounded : (left still_left old new : Option (List ℕ)) (who : Answerer) (end : List ℕ) (answer : Result (Unit {0}) Fault) →
-    RunsThrough who end left still_left old new answer → Bounded left still_left answer
-bounded left still_left old new who end answer (cut f e r) =
-    let other = runs_other who left still_left old new f r in
-    subst (Bounded left still_left) (sym e)
-    (record { front = (r.front, r.most, r.read); not_usage = not_usage_of f other; not_file = not_file_of f other })
-bounded left still_left old new who end answer (part mid f r e out took) =
-    subst (Bounded left still_left) (sym e)
-    (record { front = (r.front, r.most, r.read); not_usage = not_usage_of f (out_other f out); not_file = not_file_of f (out_other f out) })
-bounded left still_left old new who end answer (whole mid r e took) =
-    subst (Bounded left still_left) (sym e) (record { front = (r.front, r.most, r.read); not_usage = λ i. cc; not_file = λ i. cc })
+bounded : (most : Option ℕ) (left still_left old new : Option (List ℕ)) (who : Answerer) (end : List ℕ) (answer : Result (Unit {0}) Fault) →
+    RunsThrough who most end left still_left old new answer → Bounded most left still_left answer
+bounded most left still_left old new who end answer (cut f e r) =
+    let other = runs_other who most left still_left old new f r in
+    subst (Bounded most left still_left) (sym e)
+    (record { front = (r.front, r.past, r.read); not_usage = not_usage_of f other; not_file = not_file_of f other })
+bounded most left still_left old new who end answer (part mid f r e out took) =
+    subst (Bounded most left still_left) (sym e)
+    (record { front = (r.front, r.past, r.read); not_usage = not_usage_of f (out_other f out); not_file = not_file_of f (out_other f out) })
+bounded most left still_left old new who end answer (whole mid r e took) =
+    subst (Bounded most left still_left) (sym e) (record { front = (r.front, r.past, r.read); not_usage = λ i. cc; not_file = λ i. cc })
 
 pub through_answers : (c : Command) (given last : List Told) (files : List (List ℕ)) (who : Answerer) (end : List ℕ) (before after : Streams)
     (answer : Result (Unit {0}) Fault) → reads_input c ≡ true →
     ArePassed (calls_passes c) given last → end ≡ closing c last →
     ((ls : List (List ℕ)) (replies : List ℕ) → AreReplies who ls replies → Owes c files given last ls replies) →
-    RunsThrough who end before.input.left after.input.left before.out.held after.out.held answer →
+    RunsThrough who (input_most files) end before.input.left after.input.left before.out.held after.out.held answer →
     Counts (answer ≡ Err fault.Input) before.input.faults after.input.faults → Counts (answer ≡ Err fault.Output) before.out.faults after.out.faults →
-    after.input.given ≤ before.input.given + (input_limit + 1) → after.input.ends ≤ before.input.ends + 1 → AnswersOn c given last files before after answer
+    IsWithin (one_past (input_most files)) (after.input.given - before.input.given) → after.input.ends ≤ before.input.ends + 1 →
+    AnswersOn c given last files before after answer
 through_answers c given last files who end before after answer e p is owes r input out given_most ends_most =
-    let b = bounded before.input.left after.input.left before.out.held after.out.held who end answer r in record {
+    let b = bounded (input_most files) before.input.left after.input.left before.out.held after.out.held who end answer r in record {
       passed = p;
       spared = λ f h. absurd (owed_accepted c files given last [] [] (owes [] [] refl) f h);
       ends = through_ends (record { command = c; files = files; given = given; passes = last }) before after who end answer (record { reads = e; owes = owes })
@@ -335,8 +427,9 @@ through_answers c given last files who end before after answer e p is owes r inp
     }
 
 -- the end is written behind the replies
-pub through_written : (who : Answerer) (end : List ℕ) (left still_left old mid new : Option (List ℕ)) (done : Unit {0}) (answer : Result (Unit {0}) Fault) →
-    RunsOn who left still_left old mid (Ok done) → OnOk answer (Appends mid new end) → TookPrefix mid new end → IfErr answer IsOutFault →
-    RunsThrough who end left still_left old new answer
-through_written who end left still_left old mid new done (Ok other) r all some is = whole mid r refl all
-through_written who end left still_left old mid new done (Err f) r all some is = part mid f r refl is some
+pub through_written : (who : Answerer) (most : Option ℕ) (end : List ℕ) (left still_left old mid new : Option (List ℕ)) (done : Unit {0})
+    (answer : Result (Unit {0}) Fault) →
+    RunsOn who most left still_left old mid (Ok done) → OnOk answer (Appends mid new end) → TookPrefix mid new end → IfErr answer IsOutFault →
+    RunsThrough who most end left still_left old new answer
+through_written who most end left still_left old mid new done (Ok other) r all some is = whole mid r refl all
+through_written who most end left still_left old mid new done (Err f) r all some is = part mid f r refl is some

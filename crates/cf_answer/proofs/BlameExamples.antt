@@ -10,7 +10,7 @@ use Rattle.cf_program.specs.Checked.{TypedTree}
 use Rattle.cf_words.specs.Commands.{compile, verify}
 use Rattle.cf_answer.specs.Ends.{Answers, IsInOrder, source_alone, steps_too}
 use Rattle.cf_answer.specs.Limits.{text_limit}
-use Rattle.cf_answer.specs.Outside.{Outside, outside, Blames, IsSparing, IsFrugal}
+use Rattle.cf_answer.specs.Outside.{Outside, outside, Blames, IsSparing, IsFrugal, Taken}
 use Rattle.cf_answer.specs.Refusals.{IsBrokenSource}
 use Rattle.cf_answer.specs.Sources.{IsTypedSource}
 use Rattle.cf_answer.specs.declared.fault.Fault.{Fault}
@@ -129,32 +129,42 @@ input-for_output h = let e = h.out.same (λ e. cc) in omega (arith, e)
 abbrev source : Option (List ℕ) → ℕ → ℕ → SourceSeen
 source left given ends = record { left = left; faults = 0; given = given; ends = ends }
 
+abbrev limited : Option ℕ
+limited = Some input_limit
+
 -- one byte more than the limit of 16777216, and one end
-most-of_the_input : (bytes : List ℕ) → length bytes ≡ 16777217 → IsSparing (source (Some bytes) 5 2) (source (Some []) 16777222 3)
+most-of_the_input : (bytes : List ℕ) → length bytes ≡ 16777217 → IsSparing limited (source (Some bytes) 5 2) (source (Some []) 16777222 3)
 unfolding input_limit
 most-of_the_input bytes e = record { front = (bytes, omega (arith, e), sym (append-nil bytes)); given = omega arith; ends = omega arith }
 
-two-bytes_more : (bytes : List ℕ) → length bytes ≡ 16777218 → IsSparing (source (Some bytes) 0 0) (source (Some []) 0 0) → ⊥
+two-bytes_more : (bytes : List ℕ) → length bytes ≡ 16777218 → IsSparing limited (source (Some bytes) 0 0) (source (Some []) 0 0) → ⊥
 unfolding input_limit
 two-bytes_more bytes e h =
     let front : bytes ≡ h.front.0 = h.front.2 ∙ append-nil h.front.0 in omega (arith, e, ap length front, h.front.1)
 
-more-given : IsSparing (source None 5 0) (source None 16777223 0) → ⊥
+more-given : IsSparing limited (source None 5 0) (source None 16777223 0) → ⊥
 unfolding input_limit
 more-given h = omega (arith, h.given)
 
-two-ends : IsSparing (source None 0 2) (source None 0 4) → ⊥
+two-ends : IsSparing None (source None 0 2) (source None 0 4) → ⊥
 two-ends h = omega (arith, h.ends)
+
+-- all of an input without a limit
+all-of_the_input : (bytes : List ℕ) → IsSparing None (source (Some bytes) 5 2) (source (Some []) 16777223 3)
+all-of_the_input bytes = record { front = (bytes, tt, sym (append-nil bytes)); given = tt; ends = omega arith }
 
 -- ---- how much is taken of the files
 abbrev counts : Option (List ℕ) → ℕ → ℕ → ℕ → Outside
 counts left fetches given ends =
     outside (record { texts = texts; left = left; faults = never; fetches = fetches; given = given; ends = ends }) (source None 0 0) (out 0)
 
-abbrev Takes : List (List ℕ) → Option (List ℕ) → ℕ → ℕ → ℕ → Type 0
-Takes names left fetches given ends = IsFrugal names (counts (Some (codes "old")) 5 7 3) (counts left fetches given ends)
+abbrev taken : Taken
+taken = record { text = text_limit; input = limited }
 
-untouched-input : IsSparing (source None 0 0) (source None 0 0)
+abbrev Takes : List (List ℕ) → Option (List ℕ) → ℕ → ℕ → ℕ → Type 0
+Takes names left fetches given ends = IsFrugal taken names (counts (Some (codes "old")) 5 7 3) (counts left fetches given ends)
+
+untouched-input : IsSparing limited (source None 0 0) (source None 0 0)
 untouched-input = record { front = ([], omega arith, tt); given = omega arith; ends = omega arith }
 
 -- of the second of two files one byte was read; of both, one byte more than the limit of 1048576 for each, and an end for each
@@ -218,7 +228,7 @@ module _ (front : List ℕ) where
       outside (record { texts = λ n. Some (front ++ codes "2"); left = left; faults = never; fetches = fetches; given = 0; ends = 0 }) (source None 0 0) (out 0)
 
   abbrev IsRead : Type 0
-  IsRead = IsFrugal (codes "a" ∷ []) (long (Some (codes "old")) 5) (long (Some (codes "2")) 6)
+  IsRead = IsFrugal taken (codes "a" ∷ []) (long (Some (codes "old")) 5) (long (Some (codes "2")) 6)
 
   one_byte_more : length front ≡ 1048577 → IsRead
   unfolding text_limit

@@ -1,17 +1,18 @@
 -- Worked examples: what comes of a command on its files, clause by clause, on a text that is one byte too long.
-use Rattle.std.proofs.Common.{◌≡◌, inl, inr, ◌<◌, ◌≤◌, ◌+◌, ap, subst, refl, ℕ, true, false, List, [], ◌∷◌, length, Some, None, arith, codes}
+use Rattle.std.proofs.Common.{◌≡◌, inl, inr, ◌<◌, ◌≤◌, ◌+◌, ap, subst, refl, ℕ, ◌-◌, true, false, List, [], ◌∷◌, length, Some, None, arith, codes}
 use Rattle.std.specs.Prelude.{Result, Err}
-use Rattle.cf_io.specs.Limits.{input_limit}
+use Rattle.cf_io.specs.Limits.{input_limit, IsWithin}
 use Rattle.cf_io.specs.Seen.{ShelfSeen, SourceSeen, SinkSeen}
 use Rattle.cf_form.specs.declared.fault.FormFault.TheVariants as form
 use Rattle.cf_pass.specs.Passes.{Told}
 use Rattle.cf_words.specs.Commands.{compile, pre}
 use Rattle.cf_answer.specs.Ends.{AnswersOn, Does}
-use Rattle.cf_answer.specs.Limits.{text_limit}
-use Rattle.cf_answer.specs.Outside.{outside, streams, AreTexts}
+use Rattle.cf_answer.specs.Limits.{input_most, text_limit}
+use Rattle.cf_answer.specs.Outside.{outside, streams, AreTexts, one_past}
 use Rattle.cf_answer.specs.Refusals.{broken, wide, unruly, refused, too_long, odd_byte, large_number, no_tree, bad_tree, Refuses}
 use Rattle.cf_answer.specs.declared.fault.Fault.{Fault}
 use Rattle.cf_answer.specs.declared.fault.Fault.TheVariants as fault
+use Rattle.cf_answer.proofs.OutsideLemmas.{none_within, nothing_read}
 
 abbrev name : List ℕ
 name = codes "a"
@@ -49,7 +50,7 @@ module _ (text : List ℕ) where
     passed = refl;
     spared = λ f r. refl;
     ends = (too_long (omega (arith, e)), refl);
-    sparing = record { front = ([], omega arith, refl); given = omega arith; ends = omega arith };
+    sparing = nothing_read (input_most (text ∷ [])) (input 0 0);
     input = record { same = λ no. refl; rose = λ e. cc };
     out = record { same = λ no. refl; rose = λ e. cc };
     not_usage = λ e. cc;
@@ -79,7 +80,7 @@ module _ (text : List ℕ) where
     passed = inl (record { name = refl; tally = omega arith; turns = refl }, tt);
     spared = λ f r. absurd (accepted f r);
     ends = inr refl;
-    sparing = record { front = ([], omega arith, refl); given = omega arith; ends = omega arith };
+    sparing = nothing_read (input_most (text ∷ [])) (input 0 0);
     input = record { same = λ no. refl; rose = λ e. cc };
     out = record { same = λ no. refl; rose = λ e. cc };
     not_usage = λ e. cc;
@@ -93,8 +94,11 @@ module _ (text : List ℕ) where
   another_number_of_files h = h.ends.0
 
   -- two bytes more than the limit
-  more_read : OnTexts (text ∷ []) 3 (input (input_limit + 2) 0) (out (codes "old") 0) (Err fault.TextTooLong) → ⊥
-  more_read h = let given = h.sparing.given in omega (arith, given)
+  more_read : input_most (text ∷ []) ≡ Some input_limit →
+      OnTexts (text ∷ []) 3 (input (input_limit + 2) 0) (out (codes "old") 0) (Err fault.TextTooLong) → ⊥
+  more_read limited h =
+      let given : IsWithin (one_past (Some input_limit)) ((input_limit + 2) - 0) =
+      subst (λ most. IsWithin (one_past most) ((input_limit + 2) - 0)) limited h.sparing.given in omega (arith, given)
 
   input_failed : OnTexts (text ∷ []) 3 (input 0 1) (out (codes "old") 0) (Err fault.TextTooLong) → ⊥
   input_failed h = let same : 1 ≡ 0 = h.input.same (λ e. cc) in omega (arith, same)
@@ -120,7 +124,7 @@ OnShelf text turns after read =
 module _ (text : List ℕ) where
   fetched_once : length text ≡ 1048577 → OnShelf text 3 (shelf text 6 0) (input 0 0)
   unfolding text_limit
-  fetched_once e = record {
+  fetched_once e = let none = none_within (one_past (input_most (text ∷ []))) in record {
     files = text ∷ [];
     told = (refl, tt);
     passed = refl;
@@ -138,7 +142,7 @@ module _ (text : List ℕ) where
       file = inl refl;
       given = omega arith;
       ends = omega arith;
-      input = record { front = ([], omega arith, refl); given = omega arith; ends = omega arith };
+      input = record { front = ([], none, refl); given = none; ends = omega arith };
     };
   }
 

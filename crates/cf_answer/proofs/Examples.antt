@@ -1,5 +1,5 @@
 -- Worked examples of the definitions.
-use Rattle.std.proofs.Common.{◌≡◌, inl, inr, ap, refl, ℕ, ◌-◌, ◌^◌, true, false, List, [], ◌∷◌, arith, codes}
+use Rattle.std.proofs.Common.{◌≡◌, inl, inr, ap, refl, ℕ, ◌-◌, ◌^◌, true, false, List, [], ◌∷◌, Some, arith, codes}
 use Rattle.std.specs.Fmt.{digits}
 use Rattle.std.specs.Prelude.{Ok, Err}
 use Rattle.cf_io.specs.Limits.{input_limit}
@@ -108,11 +108,12 @@ verify_reads_none = refl
 compile_reads_none : input_for (compile (record { plain = false; stats = false }) (codes "a")) (codes "1\n") ≡ []
 compile_reads_none = refl
 
-run_is_answered : answered_lines (input_for (run (record { plain = false; stats = false }) (codes "a")) (codes "1\n2")) ≡ codes "1" ∷ codes "2" ∷ []
+run_is_answered : answered_lines (Some input_limit) (input_for (run (record { plain = false; stats = false }) (codes "a")) (codes "1\n2")) ≡ codes "1" ∷ codes
+    "2" ∷ []
 unfolding input_limit
 run_is_answered = refl
 
-closed_behind : behind_lines (codes "1\n2") (codes "# fold 1\n") ≡ codes "# fold 1\n"
+closed_behind : behind_lines (Some input_limit) (codes "1\n2") (codes "# fold 1\n") ≡ codes "# fold 1\n"
 unfolding input_limit
 closed_behind = refl
 

@@ -14,6 +14,7 @@ use Rattle.cf_form.specs.declared.fault.FormFault.{FormFault}
 use Rattle.cf_form.specs.declared.fault.FormFault.TheVariants as form
 use Rattle.cf_target.specs.Spelling.{TargetTree}
 use Rattle.cf_words.specs.Commands.{Command, compile, run, pre, check, exec, prove, verify, gen}
+use Rattle.cf_answer.specs.Limits.{TextKind}
 use Rattle.cf_answer.specs.Refusals.{Causes, too_long, odd_byte, large_number, no_tree, bad_tree, IsBroken, broken, wide, form_fault, IsBadProgram, unruly, refused, IsBadRun, bad, broken_late, IsBadTarget, untyped, IsRefusedSource, IsRefusedRun, IsRefusedTarget, IsUnverified, bad_source, bad_steps, bad_blocks, Refuses}
 use Rattle.cf_answer.specs.declared.fault.Fault.{Fault}
 use Rattle.cf_answer.specs.declared.fault.Fault.TheVariants as fault
@@ -34,14 +35,14 @@ IsTextFault (fault.Steps e) = Unit {0}
 IsTextFault (fault.Rejected n i j w) = Unit {0}
 IsTextFault f = ⊥
 
-caused : {Tree : Type 0} (edition : Edition) (Is : Tree → List Token → Type 0) (read : Reader Tree) (Bad : Tree → Fault → Type 0) →
+caused : {Tree : Type 0} (kind : TextKind) (Is : Tree → List Token → Type 0) (read : Reader Tree) (Bad : Tree → Fault → Type 0) →
     ((x : Tree) (f : Fault) → Bad x f → IsTextFault f) →
-    (text : List ℕ) (f : Fault) → Causes edition Is read Bad text f → IsTextFault f
-caused edition Is read Bad by text f (too_long h) = tt
-caused edition Is read Bad by text f (odd_byte ts p h) = tt
-caused edition Is read Bad by text f (large_number ts p h) = tt
-caused edition Is read Bad by text f (no_tree ts end p h none place) = tt
-caused edition Is read Bad by text f (bad_tree x g s b) = by x g b
+    (text : List ℕ) (f : Fault) → Causes kind Is read Bad text f → IsTextFault f
+caused kind Is read Bad by text f (too_long h) = tt
+caused kind Is read Bad by text f (odd_byte ts p h) = tt
+caused kind Is read Bad by text f (large_number ts p h) = tt
+caused kind Is read Bad by text f (no_tree ts end p h none place) = tt
+caused kind Is read Bad by text f (bad_tree x g s b) = by x g b
 
 form_text : (defs : List DefTree) (e : FormFault) → IsUnformed defs e → IsTextFault (form_fault e)
 form_text defs (form.Cases n k) h = tt

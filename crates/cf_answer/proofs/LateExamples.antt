@@ -1,5 +1,5 @@
 -- Worked examples of sources whose coefficients are inputs: what `run` replies to a line, and what it refuses.
-use Rattle.std.proofs.Common.{◌≡◌, ap, subst, refl, ℕ, true, pos, List, [], ◌∷◌, ◌++◌, ◌-◌, ◌+◌, Ok, Err, Some, codes, arith}
+use Rattle.std.proofs.Common.{◌≡◌, ap, subst, refl, ℕ, true, pos, List, [], ◌∷◌, ◌++◌, ◌-◌, ◌+◌, Err, Some, codes, arith}
 use Rattle.std.specs.Fmt.{digits}
 use Rattle.cf_num.specs.Divisors.{gcd_by, factors_by}
 use Rattle.cf_num.specs.Limit.{limit as greatest}
@@ -32,6 +32,7 @@ use Rattle.cf_program.specs.declared.linearity.Linearity.TheVariants.{Plain}
 use Rattle.cf_program.specs.Checked.{TypedTree, checked}
 use Rattle.cf_program.specs.declared.fault.TypeFault.TheVariants as rule
 use Rattle.cf_answer.specs.LateReplies.{main_comes, IsLateReply, comes}
+use Rattle.cf_answer.specs.Limits.{of_source}
 use Rattle.cf_answer.specs.Owed.{by_late, AreReplies, OwesRun, compiled, late}
 use Rattle.cf_pass.specs.Passes.{Told}
 use Rattle.cf_answer.specs.Picked.{main_bases}
@@ -107,7 +108,7 @@ another_rule_for_run = broken_late (at 57) _ refl (broken (rule.DuplicateName (a
 -- ---- no pass is called
 not_compiled : {A : Type 0} (source : List ℕ) (tree other : TypedTree) → IsLateSource source tree → IsTypedSource source other → A
 not_compiled source tree other l s =
-    let same : s.0 ≡ l.0 = trees_agree (edition_of source) (IsProgram (edition_of source)) (one_program source) source s.0 l.0 s.1 l.1 in
+    let same : s.0 ≡ l.0 = trees_agree (of_source (edition_of source)) (IsProgram (edition_of source)) (one_program source) source s.0 l.0 s.1 l.1 in
     let kept = (typed_is_checked (edition_of source) Plain l.0 other (subst (λ p. IsTypedBy (edition_of source) Plain p other) same s.2)).1 in
     let broken : checked (edition_of source) Plain l.0 ≡ Err (rule.NotLinear l.2.0) = l.2.1 in absurd (cc)
 

@@ -4,6 +4,8 @@ pub mod AskedLemmas
 mod BlameExamples
 mod BlockExamples
 pub mod BlockLemmas
+mod BranchExamples
+pub mod BranchLemmas
 pub mod CauseLemmas
 mod CertificateExamples
 pub mod CertificateLemmas
@@ -17,12 +19,14 @@ mod Examples
 pub mod FaultLemmas
 pub mod FileLemmas
 pub mod FormedLemmas
+pub mod HeadLemmas
 mod LateExamples
 pub mod LateLemmas
 mod LimitExamples
 mod LineExamples
 pub mod LoweredLemmas
 pub mod MatchClassLemmas
+pub mod NameLemmas
 pub mod OriginLemmas
 mod OutsideExamples
 pub mod OutsideLemmas
@@ -52,6 +56,7 @@ mod TextExamples
 pub mod TextLemmas
 mod ToldExamples
 pub mod ToldLemmas
+pub mod ToldProgramLemmas
 pub mod VerifyLemmas
 pub mod WorkloadAccepted
 pub mod WorkloadLaw

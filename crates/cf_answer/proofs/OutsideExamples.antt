@@ -1,11 +1,12 @@
 -- What is told of files, in which order, and how counts of faults rise.
-use Rattle.std.proofs.Common.{◌≡◌, ℕ, List, [], ◌∷◌, Option, Some, None, false, refl, sym, ap, arith, codes}
-use Rattle.std.specs.Prelude.{if◌then◌else◌, nat_le, length, take}
+use Rattle.std.proofs.Common.{◌≡◌, ℕ, List, [], ◌∷◌, Option, Some, None, refl, sym, ap, arith, codes}
+use Rattle.std.specs.Prelude.{if◌then◌else◌, length}
 use Rattle.std.specs.Str.{bytes_eq}
 use Rattle.cf_io.specs.Limits.{input_limit}
-use Rattle.cf_io.specs.Lines.{ended}
 use Rattle.cf_answer.specs.Ends.{answered_lines, behind_lines}
-use Rattle.cf_answer.specs.Outside.{AreTold, AreTexts, Counts}
+use Rattle.cf_answer.specs.Limits.{input_limit_of, edition_for}
+use Rattle.cf_answer.specs.Outside.{AreTold, AreTexts, Counts, one_past}
+use Rattle.cf_tree.specs.declared.base.Edition.TheVariants.{Two, Three}
 
 -- under `a` and `b` stand `1` and `2`; what stands under any other name is not told
 abbrev texts : List ℕ → Option (List ℕ)
@@ -53,9 +54,22 @@ rises-by_one = record { same = λ none. absurd (none tt); rose = λ failed. refl
 rises-by_two : Counts (Unit {0}) 3 5 → ⊥
 rises-by_two c = omega (arith, c.rose tt)
 
--- ---- lines of an input past the limit
-long-answered : (input : List ℕ) → nat_le (length input) input_limit ≡ false → answered_lines input ≡ ended (take input_limit input)
-long-answered input past = rw past refl
+-- ---- lines of an input past its limit of two bytes, and of one without a limit
+long-answered : (answered_lines (Some 2) (codes "a\nb") ≡ codes "a" ∷ []) × (answered_lines (Some 3) (codes "a\nb") ≡ codes "a" ∷ codes "b" ∷ [])
+    × (answered_lines None (codes "a\nb") ≡ codes "a" ∷ codes "b" ∷ [])
+long-answered = (refl, refl, refl)
 
-long-unclosed : (input end : List ℕ) → nat_le (length input) input_limit ≡ false → behind_lines input end ≡ []
-long-unclosed input end past = rw past refl
+long-unclosed : (behind_lines (Some 2) (codes "a\nb") (codes "# f 1\n") ≡ []) × (behind_lines (Some 3) (codes "a\nb") (codes "# f 1\n") ≡ codes "# f 1\n")
+    × (behind_lines None (codes "a\nb") (codes "# f 1\n") ≡ codes "# f 1\n")
+long-unclosed = (refl, refl, refl)
+
+-- ---- limits by edition
+limits : (input_limit_of Two ≡ Some input_limit) × (input_limit_of Three ≡ None)
+limits = (refl, refl)
+
+edition-of_the_first : (edition_for [] ≡ Two) × (edition_for (codes "comfusy 3\n" ∷ codes "1" ∷ []) ≡ Three) ×
+    (edition_for (codes "1" ∷ codes "comfusy 3\n" ∷ []) ≡ Two)
+edition-of_the_first = (refl, refl, refl)
+
+one-past : (one_past (Some 3) ≡ Some 4) × (one_past None ≡ None)
+one-past = (refl, refl)

@@ -1,21 +1,33 @@
 -- What is left as it was, and what a file tells.
-use Rattle.std.proofs.Common.{◌≡◌, sym, ap, subst, refl, ℕ, ◌<◌, ◌+◌, List, [], replicate, length, Option, Some, None, arith}
+use Rattle.std.proofs.Common.{◌≡◌, sym, ap, subst, refl, ℕ, ◌<◌, ◌+◌, ◌-◌, List, [], replicate, length, Option, Some, None, arith}
 use Rattle.std.proofs.lemmas.List.{length-replicate}
 use Rattle.std.specs.Prelude.{IfSome}
 use Rattle.std.proofs.KnownBytes.{Consumes-nil}
 use Rattle.cf_io.specs.Seen.{SourceSeen}
-use Rattle.cf_answer.specs.Limits.{text_limit}
-use Rattle.cf_answer.specs.Outside.{Outside, AreTold, Counts, IsSparing}
+use Rattle.cf_io.specs.Limits.{IsWithin}
+use Rattle.cf_answer.specs.Outside.{Outside, AreTold, Counts, IsSparing, one_past}
 
 -- nothing was read of the input and nothing written
 abbrev pub Untouched : Outside → Outside → Type 0
 Untouched before after = after.streams ≡ before.streams
 
-pub nothing_read : (input : SourceSeen) → IsSparing input input
-nothing_read input = record { front = ([], omega arith, Consumes-nil input.left); given = omega arith; ends = omega arith }
+-- no bytes are within any limit
+pub none_within : (most : Option ℕ) → IsWithin most 0
+none_within None = tt
+none_within (Some most) = omega arith
 
-pub none_read : (before after : Outside) → Untouched before after → IsSparing before.streams.input after.streams.input
-none_read before after still = subst (λ s. IsSparing before.streams.input s.input) (sym still) (nothing_read before.streams.input)
+none_given : (most : Option ℕ) (given : ℕ) → IsWithin most (given - given)
+none_given most given = let none : given - given ≡ 0 = omega arith in subst (IsWithin most) (sym none) (none_within most)
+
+pub nothing_read : (most : Option ℕ) (input : SourceSeen) → IsSparing most input input
+nothing_read most input = record {
+  front = ([], none_within (one_past most), Consumes-nil input.left);
+  given = none_given (one_past most) input.given;
+  ends = omega arith;
+}
+
+pub none_read : (most : Option ℕ) (before after : Outside) → Untouched before after → IsSparing most before.streams.input after.streams.input
+none_read most before after still = subst (λ s. IsSparing most before.streams.input s.input) (sym still) (nothing_read most before.streams.input)
 
 pub none_written : (before after : Outside) → Untouched before after → after.streams.out.held ≡ before.streams.out.held
 none_written before after still = ap (λ s. s.out.held) still
@@ -37,7 +49,7 @@ pub text_told : (told : Option (List ℕ)) (text : List ℕ) → IfSome told (λ
 text_told None text h = tt
 text_told (Some t) text h = sym h
 
--- a text that is told, and too long
-pub long_text : (told : Option (List ℕ)) → IfSome told (λ text. text_limit < length text) → (text : List ℕ) × AreTold told text × (text_limit < length text)
-long_text None h = (replicate (text_limit + 1) 0, tt, rw length-replicate (omega arith))
-long_text (Some text) h = (text, refl, h)
+-- a text that is told, and longer than so many bytes
+pub long_text : (most : ℕ) (told : Option (List ℕ)) → IfSome told (λ text. most < length text) → (text : List ℕ) × AreTold told text × (most < length text)
+long_text most None h = (replicate (most + 1) 0, tt, rw length-replicate (omega arith))
+long_text most (Some text) h = (text, refl, h)

@@ -23,6 +23,8 @@ use Rattle.cf_tree.specs.ChooseTree.{ChooseTree}
 use Rattle.cf_build.specs.Chooses.{limit_of, choose_arms, solve_of}
 use Rattle.cf_emit.specs.Printed.{code_text, pre_text, target_text}
 use Rattle.cf_emit.specs.ReadsBack.{ReadsBack}
+use Rattle.cf_form.specs.Branches.{Branch}
+use Rattle.cf_answer.specs.Branches.{valued}
 use Rattle.cf_answer.specs.Owed.{IsPrinted, IsPreOf}
 
 -- the x whose double lies between a and b
@@ -55,20 +57,20 @@ unfolding arms arm first_systems disjuncts system_of_case write_atom run run_for
 rounding_solve = refl
 
 -- ---- the printed precondition of a choose
-told_of : (text : List ℕ) → IsPreOf rounding text →
+told_of : (text : List ℕ) → IsPreOf rounding [] text →
     text ≡ codes "pre 1 (a, b) {\narm [] {\nlet div((-1 * v0), 2);\nlet div(v1, 2);\nneed ((v2 + v3) >= 0);\n}\n}\n"
 told_of text p = p.is ∙ rounding_pre
 
 -- it passes no limit, and the needs hold exactly where there are outputs
-module _ (q : ChooseTree) (text : List ℕ) where
+module _ (q : ChooseTree) (branch : Branch) (text : List ℕ) where
   abbrev Parts : Type 0
-  Parts = (limit_of q ≡ None) × (text ≡ pre_text q.number q.names (all_needs (choose_arms q)))
+  Parts = (limit_of q ≡ None) × (text ≡ pre_text q.number (valued 0 q.names branch) (all_needs (choose_arms q)))
       × ((env : List Value) → HaveBases q.scope env → HoldSomewhere (all_needs (choose_arms q)) env ↔ ((xs : List Value) × Sol q.outputs q.relation env xs))
 
-  parts_of_pre : IsPreOf q text → Parts
+  parts_of_pre : IsPreOf q branch text → Parts
   parts_of_pre p = (p.within, p.is, p.holds)
 
-  pre_of_parts : Parts → IsPreOf q text
+  pre_of_parts : Parts → IsPreOf q branch text
   pre_of_parts p = record { within = p.0; is = p.1; holds = p.2 }
 
 -- ---- the printed target

@@ -14,6 +14,8 @@ use Rattle.cf_build.specs.Solves.{IsSolved}
 use Rattle.cf_build.proofs.SolveLists.{solved_number, solved_names}
 use Rattle.cf_build.specs.declared.solves.SolvedChoose.{SolvedChoose}
 use Rattle.cf_emit.specs.Printed.{pre_text}
+use Rattle.cf_form.specs.Branches.{Branch}
+use Rattle.cf_answer.specs.Branches.{valued}
 use Rattle.cf_answer.specs.Owed.{IsPreOf}
 
 -- the arms of a solved choose are those of the definition
@@ -24,12 +26,12 @@ found_arms q s h =
     ap arms_of (h.solved.arms_are ∙ same)
 
 -- what is written for it
-pub pre_of : (q : ChooseTree) (s : SolvedChoose) (needs : ArmTrees) (old new printed : List ℕ) → IsSolved q s →
+pub pre_of : (q : ChooseTree) (branch : Branch) (s : SolvedChoose) (needs : ArmTrees) (old new printed : List ℕ) → IsSolved q s →
     needs ≡ all_needs (arm_trees s.solved.arms.items) →
     IsPrecondition s.solved.scope.items s.solved.outputs.items (rel_tree s.solved.rel) needs →
-    printed ≡ pre_text s.choose.number (names_of s.choose.scope.now) needs → new ≡ old ++ printed →
-    (pre : List ℕ) × (new ≡ old ++ pre) × IsPreOf q pre
-pre_of q s needs old new printed h are holds is next =
+    printed ≡ pre_text s.choose.number (valued 0 (names_of s.choose.scope.now) branch) needs → new ≡ old ++ printed →
+    (pre : List ℕ) × (new ≡ old ++ pre) × IsPreOf q branch pre
+pre_of q branch s needs old new printed h are holds is next =
     let of = h.solved in
     let these : needs ≡ all_needs (choose_arms q) = are ∙ ap all_needs (found_arms q s.solved of) in (
       printed,

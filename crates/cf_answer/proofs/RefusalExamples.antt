@@ -1,5 +1,5 @@
 -- For what a text is refused, where a syntax fault stands, and for which fault each command is refused.
-use Rattle.std.proofs.Common.{◌≡◌, inl, inr, ◌≤◌, ◌∙◌, sym, subst, refl, ap, ℕ, pos, true, List, [], ◌∷◌, length, arith, codes}
+use Rattle.std.proofs.Common.{◌≡◌, inl, inr, ◌≤◌, ◌<◌, ◌∙◌, sym, subst, refl, ap, ℕ, pos, true, List, [], ◌∷◌, length, arith, codes}
 use Rattle.std.specs.Prelude.{Result, Ok, Err}
 use Rattle.cf_lex.specs.declared.token.Token.{Token}
 use Rattle.cf_lex.specs.declared.token.TokenKind.TheVariants.{Word}
@@ -21,21 +21,22 @@ use Rattle.cf_form.specs.FormAnswers.{IsFormOf, IsUnformed}
 use Rattle.cf_form.specs.declared.fault.FormFault.TheVariants as form
 use Rattle.cf_linear.specs.declared.refusal.Refusal.TheVariants.{Limit}
 use Rattle.cf_linear.specs.declared.refusal.LimitKind.TheVariants.{Cases}
-use Rattle.cf_build.specs.Chooses.{all_chooses, by_number}
+use Rattle.cf_tree.specs.ChooseTree.{ChooseTree}
+use Rattle.cf_form.specs.Branches.{Branch}
+use Rattle.cf_lex.specs.Editions.{edition_of}
 use Rattle.cf_steps.specs.Blocks.{BlockTree}
 use Rattle.cf_steps.specs.Reading.{all_blocks}
 use Rattle.cf_steps.specs.Spelling.{AreBlocks}
-use Rattle.cf_cert.specs.Judging.{IsVerdict}
 use Rattle.cf_cert.specs.declared.verdict.Verdict.TheVariants.{Rejected}
 use Rattle.cf_cert.specs.declared.verdict.Why.{Why}
 use Rattle.cf_words.specs.Commands.{compile, run, pre, check, exec, prove, verify, gen, help, version}
 use Rattle.cf_words.specs.declared.command.Flags.{Flags}
-use Rattle.cf_answer.specs.Limits.{text_limit}
+use Rattle.cf_answer.specs.Limits.{TextKind, text_limit, written_limit, of_source, of_target, most_of}
 use Rattle.cf_answer.specs.Refusals.{IsBroken, broken, wide, form_fault, CausesOf}
 use Rattle.cf_answer.specs.Refusals.{IsSyntaxPlace, Causes, too_long, odd_byte, large_number, no_tree, bad_tree}
 use Rattle.cf_answer.specs.Refusals.{IsRefusedSource, IsRefusedRun, IsRefusedTarget, IsRefusedSteps, IsBadTarget, untyped, IsBrokenSource}
 use Rattle.cf_answer.specs.Refusals.{IsUnverified, bad_source, bad_steps, bad_blocks, text_fault, Refuses, IsAccepted}
-use Rattle.cf_answer.specs.Certificates.{asked_in}
+use Rattle.cf_answer.specs.Branches.{AreBranched, IsVerdictIn}
 use Rattle.cf_answer.specs.Sources.{HasTokens, Spelled, SpellsProgram, IsTypedBy, IsTypedSource}
 use Rattle.cf_answer.specs.declared.fault.Fault.{Fault}
 use Rattle.cf_answer.specs.declared.fault.Fault.TheVariants as fault
@@ -48,59 +49,58 @@ unfolding text_limit
 short = omega arith
 
 -- the empty text spells a tree of which each list of no tokens is one
-spelled : Spelled {Tree = ℕ} Two (λ n ts. ts ≡ []) [] 7
+spelled : Spelled {Tree = ℕ} (of_source Two) (λ n ts. ts ≡ []) [] 7
 spelled = ([], first_place, (short, ([], none, refl)), refl)
 
-spelled-by_its_tokens : (text : List ℕ) → Spelled {Tree = ℕ} Two (λ n ts. ⊥) text 7 → ⊥
+spelled-by_its_tokens : (text : List ℕ) → Spelled {Tree = ℕ} (of_source Two) (λ n ts. ⊥) text 7 → ⊥
 spelled-by_its_tokens text h = h.3
 
-no-tokens_past_the_limit : (text : List ℕ) (ts : List Token) (p : Place) → length text ≡ 1048577 → HasTokens Two text ts p at_end → ⊥
+no-tokens_past_the_limit : (text : List ℕ) (ts : List Token) (p : Place) → length text ≡ 1048577 → HasTokens (of_source Two) text ts p at_end → ⊥
 unfolding text_limit
 no-tokens_past_the_limit text ts p e h = omega (arith, e, h.0)
 
 -- ---- causes, where Is says which tokens spell a tree, `read` reads it, and Bad says for which faults it is refused
 module _ (Is : ℕ → List Token → Type 0) (read : Reader ℕ) (Bad : ℕ → Fault → Type 0) (text : List ℕ) where
   abbrev Refused : Fault → Type 0
-  Refused f = Causes Two Is read Bad text f
+  Refused f = Causes (of_source Two) Is read Bad text f
 
   past-the_limit : length text ≡ 1048577 → Refused fault.TextTooLong
   unfolding text_limit
   past-the_limit e = too_long (omega (arith, e))
 
-  at-a_byte : (ts : List Token) (p : Place) → HasTokens Two text ts p bad_byte → Refused (fault.BadByte p)
+  at-a_byte : (ts : List Token) (p : Place) → HasTokens (of_source Two) text ts p bad_byte → Refused (fault.BadByte p)
   at-a_byte ts p h = odd_byte ts p h
 
-  at-a_number : (ts : List Token) (p : Place) → HasTokens Two text ts p past_limit → Refused (fault.NumberPast p)
+  at-a_number : (ts : List Token) (p : Place) → HasTokens (of_source Two) text ts p past_limit → Refused (fault.NumberPast p)
   at-a_number ts p h = large_number ts p h
 
-  at-a_token : (ts : List Token) (end p : Place) → HasTokens Two text ts end at_end → ((x : ℕ) → Is x ts → ⊥) → IsSyntaxPlace Is read ts end p →
+  at-a_token : (ts : List Token) (end p : Place) → HasTokens (of_source Two) text ts end at_end → ((x : ℕ) → Is x ts → ⊥) → IsSyntaxPlace Is read ts end p →
       Refused (fault.Syntax p)
   at-a_token ts end p h without place = no_tree ts end p h without place
 
-  by-its_tree : (x : ℕ) (f : Fault) → Spelled Two Is text x → Bad x f → Refused f
+  by-its_tree : (x : ℕ) (f : Fault) → Spelled (of_source Two) Is text x → Bad x f → Refused f
   by-its_tree x f s b = bad_tree x f s b
 
 -- ---- and nothing else: what such a fault says where a tree is never bad
-module _ {Tree : Type 0} (Is : Tree → List Token → Type 0) (read : Reader Tree) (text : List ℕ) where
+module _ {Tree : Type 0} (kind : TextKind) (Is : Tree → List Token → Type 0) (read : Reader Tree) (text : List ℕ) where
   abbrev OnlyText : Fault → Type 0
-  OnlyText f = Causes Two Is read (λ x g. ⊥) text f
+  OnlyText f = Causes kind Is read (λ x g. ⊥) text f
 
-  within-the_limit : (f : Fault) → f ≡ fault.TextTooLong → length text ≡ 1048576 → OnlyText f → ⊥
-  unfolding text_limit
-  within-the_limit f is e (too_long l) = omega (arith, e, l)
-  within-the_limit f is e (odd_byte ts p h) = cc is
-  within-the_limit f is e (large_number ts p h) = cc is
-  within-the_limit f is e (no_tree ts end p h without place) = cc is
-  within-the_limit f is e (bad_tree x g s b) = b
+  within-the_limit : most_of kind ≡ 1048576 → (f : Fault) → f ≡ fault.TextTooLong → length text ≡ 1048576 → OnlyText f → ⊥
+  within-the_limit most f is e (too_long l) = omega (arith, most, e, l)
+  within-the_limit most f is e (odd_byte ts p h) = cc is
+  within-the_limit most f is e (large_number ts p h) = cc is
+  within-the_limit most f is e (no_tree ts end p h without place) = cc is
+  within-the_limit most f is e (bad_tree x g s b) = b
 
-  byte-told : (f : Fault) (p : Place) → f ≡ fault.BadByte p → OnlyText f → (ts : List Token) × HasTokens Two text ts p bad_byte
+  byte-told : (f : Fault) (p : Place) → f ≡ fault.BadByte p → OnlyText f → (ts : List Token) × HasTokens kind text ts p bad_byte
   byte-told f p is (too_long l) = absurd (cc is)
   byte-told f p is (odd_byte ts q h) = let same : q ≡ p = cc is in (ts, rw (← same) h)
   byte-told f p is (large_number ts q h) = absurd (cc is)
   byte-told f p is (no_tree ts end q h without place) = absurd (cc is)
   byte-told f p is (bad_tree x g s b) = absurd b
 
-  number-told : (f : Fault) (p : Place) → f ≡ fault.NumberPast p → OnlyText f → (ts : List Token) × HasTokens Two text ts p past_limit
+  number-told : (f : Fault) (p : Place) → f ≡ fault.NumberPast p → OnlyText f → (ts : List Token) × HasTokens kind text ts p past_limit
   number-told f p is (too_long l) = absurd (cc is)
   number-told f p is (odd_byte ts q h) = absurd (cc is)
   number-told f p is (large_number ts q h) = let same : q ≡ p = cc is in (ts, rw (← same) h)
@@ -108,7 +108,7 @@ module _ {Tree : Type 0} (Is : Tree → List Token → Type 0) (read : Reader Tr
   number-told f p is (bad_tree x g s b) = absurd b
 
   syntax-told : (f : Fault) (p : Place) → f ≡ fault.Syntax p → OnlyText f →
-      (ts : List Token) × (end : Place) × HasTokens Two text ts end at_end × ((x : Tree) → Is x ts → ⊥) × IsSyntaxPlace Is read ts end p
+      (ts : List Token) × (end : Place) × HasTokens kind text ts end at_end × ((x : Tree) → Is x ts → ⊥) × IsSyntaxPlace Is read ts end p
   syntax-told f p is (too_long l) = absurd (cc is)
   syntax-told f p is (odd_byte ts q h) = absurd (cc is)
   syntax-told f p is (large_number ts q h) = absurd (cc is)
@@ -172,41 +172,52 @@ module _ (source steps : List ℕ) where
   source-first f b = bad_source f b
 
   -- then the text of the steps is
-  long-steps : (typed : TypedTree) → IsTypedSource source typed → length steps ≡ 1048577 → IsUnverified source steps (fault.Steps steps_fault.TooLong)
+  long-steps : (typed : TypedTree) → IsTypedSource source typed → edition_of source ≡ Two → length steps ≡ 1048577 →
+      IsUnverified source steps (fault.Steps steps_fault.TooLong)
   unfolding text_limit
-  long-steps typed s e = bad_steps typed steps_fault.TooLong s (too_long (omega (arith, e)))
+  long-steps typed s two e =
+      bad_steps typed steps_fault.TooLong s (too_long (subst (λ edition. most_of (of_target edition) < length steps) (sym two) (omega (arith, e))))
+
+  long-steps_of_three : (typed : TypedTree) → IsTypedSource source typed → edition_of source ≡ Three → length steps ≡ 67108865 →
+      IsUnverified source steps (fault.Steps steps_fault.TooLong)
+  unfolding written_limit
+  long-steps_of_three typed s three e =
+      bad_steps typed steps_fault.TooLong s (too_long (subst (λ edition. most_of (of_target edition) < length steps) (sym three) (omega (arith, e))))
 
   -- and then the first fault in the blocks for the chooses in the order of their numbers
-  first-in_blocks : (typed : TypedTree) (bs : List BlockTree) (n i j : ℕ) (w : Why) → IsTypedSource source typed → Spelled Two AreBlocks steps bs →
-      IsVerdict (by_number (all_chooses typed.defs)) bs (Rejected n i j w) → IsUnverified source steps (fault.Rejected n i j w)
-  first-in_blocks typed bs n i j w s b v = bad_blocks typed bs n i j w s b v
+  first-in_blocks : (cs : List (ChooseTree × Branch)) (bs : List BlockTree) (n i j : ℕ) (w : Why) → AreBranched source cs →
+      Spelled (of_target (edition_of source)) (AreBlocks (edition_of source)) steps bs → IsVerdictIn cs bs (Rejected n i j w) →
+      IsUnverified source steps (fault.Rejected n i j w)
+  first-in_blocks cs bs n i j w c b v = bad_blocks cs bs n i j w c b v
 
   -- ---- and nothing else, where no rule of the source is broken
   module _ (unbroken : (f : Fault) → IsBrokenSource source f → ⊥) where
     steps-told : (f : Fault) (e : StepsFault) → f ≡ fault.Steps e → IsUnverified source steps f →
-        (typed : TypedTree) × IsTypedSource source typed × IsRefusedSteps steps e
+        (typed : TypedTree) × IsTypedSource source typed × IsRefusedSteps (edition_of source) steps e
     steps-told f e is (bad_source g b) = absurd (unbroken g b)
     steps-told f e is (bad_steps typed d s r) = let same : d ≡ e = cc is in (typed, s, rw (← same) r)
-    steps-told f e is (bad_blocks typed bs n i j w s b v) = absurd (cc is)
+    steps-told f e is (bad_blocks cs bs n i j w c b v) = absurd (cc is)
 
     blocks-told : (f : Fault) (n i j : ℕ) (w : Why) → f ≡ fault.Rejected n i j w → IsUnverified source steps f →
-        (typed : TypedTree) × (bs : List BlockTree) × IsTypedSource source typed × Spelled Two AreBlocks steps bs × IsVerdict (asked_in typed) bs (Rejected n i j w)
+        (cs : List (ChooseTree × Branch)) × (bs : List BlockTree) × AreBranched source cs
+        × Spelled (of_target (edition_of source)) (AreBlocks (edition_of source)) steps bs × IsVerdictIn cs bs (Rejected n i j w)
     blocks-told f n i j w is (bad_source g b) = absurd (unbroken g b)
     blocks-told f n i j w is (bad_steps typed d s r) = absurd (cc is)
-    blocks-told f n i j w is (bad_blocks typed bs m k l y s b v) =
+    blocks-told f n i j w is (bad_blocks cs bs m k l y c b v) =
         let first : m ≡ n = cc is in
         let second : k ≡ i = cc is in
         let third : l ≡ j = cc is in
-        let why : y ≡ w = cc is in (typed, bs, s, b, rw (← first, ← second, ← third, ← why) v)
+        let why : y ≡ w = cc is in (cs, bs, c, b, rw (← first, ← second, ← third, ← why) v)
 
     no-other : (f : Fault) → f ≡ fault.TextTooLong → IsUnverified source steps f → ⊥
     no-other f is (bad_source g b) = unbroken g b
     no-other f is (bad_steps typed d s r) = cc is
-    no-other f is (bad_blocks typed bs m k l y s b v) = cc is
+    no-other f is (bad_blocks cs bs m k l y c b v) = cc is
 
 -- steps that spell blocks are not refused for their text
-spelled-steps : (steps : List ℕ) (e : StepsFault) → text_fault e ≡ fault.TextTooLong → length steps ≡ 1048576 → IsRefusedSteps steps e → ⊥
-spelled-steps steps e is l r = within-the_limit AreBlocks (all_blocks 500) steps (text_fault e) is l r
+spelled-steps : (steps : List ℕ) (e : StepsFault) → text_fault e ≡ fault.TextTooLong → length steps ≡ 1048576 → IsRefusedSteps Two steps e → ⊥
+unfolding text_limit
+spelled-steps steps e is l r = within-the_limit (of_target Two) (AreBlocks Two) (all_blocks Two 500) steps (omega arith) (text_fault e) is l r
 
 -- ---- a target is refused where its code is not of its results, and for that alone
 abbrev giving : CodeTree → TargetTree

@@ -22,6 +22,7 @@ use Rattle.cf_eval.specs.Spelling.{without_return}
 use Rattle.cf_pass.specs.Passes.{Told, HaveTurned}
 use Rattle.cf_late.proofs.AllowedLaws.{late_runs_are_allowed}
 use Rattle.cf_answer.specs.LateReplies.{AreRunsAllowed}
+use Rattle.cf_answer.specs.Limits.{of_source}
 use Rattle.cf_answer.specs.Owed.{by_target, by_late, ArePicked, OwesRun, compiled, late}
 use Rattle.cf_answer.specs.Passes.{applied}
 use Rattle.cf_answer.specs.Picked.{main_bases}
@@ -56,7 +57,7 @@ bad_run_alike text program f g s (broken_late p e plain h) (bad i b m) = only_la
 bad_run_alike text program f g s (broken_late p e plain h) (broken_late q d other i) = broken_alike (edition_of text) Late program f g h i
 
 pub runs_alike : (text : List ℕ) (f g : Fault) → IsRefusedRun text f → IsRefusedRun text g → fault_status f ≡ fault_status g
-runs_alike text f g h i = alike (edition_of text) (IsProgram (edition_of text)) (program_of (edition_of text) 200) (IsBadRun (edition_of text))
+runs_alike text f g h i = alike (of_source (edition_of text)) (IsProgram (edition_of text)) (program_of (edition_of text) 200) (IsBadRun (edition_of text))
     (one_program text) text (bad_run_alike text) f g h i
 
 -- ---- a source that `run` answers is not refused
@@ -76,10 +77,12 @@ late_run_kept edition program typed c f (broken_late p e plain h) = typed_never_
 pub run_unrefused : (calls : Bool) (source : List ℕ) (given last : List Told) (ls : List (List ℕ)) (text : List ℕ) (f : Fault) →
     OwesRun calls source given last ls text → IsRefusedRun source f → ⊥
 run_unrefused calls source given last ls text f (compiled t (c, turned) replies picked) r =
-    unrefused (edition_of source) (IsProgram (edition_of source)) (program_of (edition_of source) 200) (IsBadRun (edition_of source)) (one_program source)
+    unrefused (of_source (edition_of source)) (IsProgram (edition_of source)) (program_of (edition_of source) 200) (IsBadRun (edition_of source))
+    (one_program source)
     source f c.1.0 (built_run (edition_of source) c.1.0 c.0 (applied calls given) (applied calls last) t c.1.2 c.2) r c.1.1
 run_unrefused calls source given last ls text f (late typed s replies allowed same) r =
-    unrefused (edition_of source) (IsProgram (edition_of source)) (program_of (edition_of source) 200) (IsBadRun (edition_of source)) (one_program source)
+    unrefused (of_source (edition_of source)) (IsProgram (edition_of source)) (program_of (edition_of source) 200) (IsBadRun (edition_of source))
+    (one_program source)
     source f s.0 (late_run_kept (edition_of source) s.0 typed s.2) r s.1
 
 -- ---- what answers the lines
@@ -129,7 +132,8 @@ run_unruly edition text program f other is s h =
     bad_tree program f s (bad f (unruly f (subst (λ e. IsBroken e Plain program f) is h)) other)
 
 pub run_unruly_or : (edition : Edition) (text : List ℕ) (program : List RawItemTree) (f : Fault) → ((p : Place) → f ≡ fault.Rule (rule.NotLinear p) → ⊥) →
-    edition ≡ edition_of text → SpellsProgram text program → IsBroken edition Plain program f ⊎ (f ≡ fault.NoMemory) → IsRefusedRun text f ⊎ (f ≡ fault.NoMemory)
+    edition ≡ edition_of text → SpellsProgram text program → IsBroken edition Plain program f ⊎ (f ≡ fault.NoMemory) →
+    IsRefusedRun text f ⊎ (f ≡ fault.NoMemory)
 run_unruly_or edition text program f other is s (inl h) = inl (run_unruly edition text program f other is s h)
 run_unruly_or edition text program f other is s (inr memory) = inr memory
 

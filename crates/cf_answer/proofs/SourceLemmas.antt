@@ -1,5 +1,5 @@
 -- Why a source text is refused, and that this is one thing only.
-use Rattle.std.proofs.Common.{◌≡◌, ap, subst, ℕ, List, [], ◌∷◌, None, Some, All}
+use Rattle.std.proofs.Common.{◌≡◌, ◌∙◌, refl, ap, subst, ℕ, List, [], ◌∷◌, map, drop, None, Some, All}
 use Rattle.std.proofs.lemmas.List.Elements.{All-nil, All-cons, All-contains}
 use Rattle.std.proofs.lemmas.List.Sorted.{Contains-permutation}
 use Rattle.std.specs.Prelude.{Contains}
@@ -17,9 +17,12 @@ use Rattle.cf_tree.specs.ChooseTree.{ChooseTree}
 use Rattle.cf_build.specs.Chooses.{all_chooses, by_number, limit_of, IsFirstRefused}
 use Rattle.cf_build.proofs.ChooseLaws.{one_refusal, refused_has}
 use Rattle.cf_build.proofs.NumberOrder.{ordered_same}
-use Rattle.cf_match.specs.Matches.{MatchTree, all_matches}
+use Rattle.cf_form.specs.Branches.{Branch}
 use Rattle.cf_form.specs.Told.{ToldChoose}
+use Rattle.cf_match.specs.Matches.{MatchTree, all_matches}
+use Rattle.cf_answer.specs.Branches.{AreBranched, coming, in_branches}
 use Rattle.cf_answer.specs.Checks.{AreChecksBehind}
+use Rattle.cf_answer.specs.Limits.{of_source}
 use Rattle.cf_answer.specs.Owed.{AllWritten, IsPreOf, ArePres, AreChecks}
 use Rattle.cf_answer.specs.Refusals.{IsBadProgram, unruly, refused, IsRefusedSource}
 use Rattle.cf_answer.specs.Sources.{SpellsProgram, IsTypedBy, IsTypedSource, Compiles}
@@ -43,7 +46,8 @@ bad_alike text program f g s (refused typed n r h b) (refused other m q i c) =
     ap refusal_status (one_refusal (all_chooses typed.defs) n m r q b there)
 
 pub sources_alike : (text : List ℕ) (f g : Fault) → IsRefusedSource text f → IsRefusedSource text g → fault_status f ≡ fault_status g
-sources_alike text f g h i = alike (edition_of text) (IsProgram (edition_of text)) (program_of (edition_of text) 200) (IsBadProgram (edition_of text))
+sources_alike text f g h i = alike (of_source (edition_of text)) (IsProgram (edition_of text)) (program_of (edition_of text) 200)
+    (IsBadProgram (edition_of text))
     (one_program text) text (bad_alike text) f g h i
 
 -- a program whose chooses pass no limit is not refused
@@ -59,7 +63,7 @@ never_bad edition program typed is within f (refused other n r h b) =
 pub typed_unrefused : (text : List ℕ) (typed : TypedTree) (f : Fault) → IsTypedSource text typed →
     ((q : ChooseTree) → Contains (all_chooses typed.defs) q → limit_of q ≡ None) →
     IsRefusedSource text f → ⊥
-typed_unrefused text typed f s within h = unrefused (edition_of text) (IsProgram (edition_of text)) (program_of (edition_of text) 200)
+typed_unrefused text typed f s within h = unrefused (of_source (edition_of text)) (IsProgram (edition_of text)) (program_of (edition_of text) 200)
     (IsBadProgram (edition_of text)) (one_program text) text f s.0 (never_bad (edition_of text) s.0 typed s.2 within) h s.1
 
 -- nor is one of which a target is built
@@ -69,6 +73,18 @@ built_never_bad edition program typed given last t is built f b = never_bad edit
 
 pub compiled_unrefused : (given last : List Told) (text : List ℕ) (t : RawTarget) (f : Fault) → Compiles given last text t → IsRefusedSource text f → ⊥
 compiled_unrefused given last text t f c h = typed_unrefused text c.0 f c.1 (λ q m. (c.2.solved q m).within) h
+
+-- the chooses behind their branches
+pub plain_chooses : (told : List ToldChoose) (bs : List Branch) (qs : List ChooseTree) → map (λ c. c.0) (in_branches told bs qs) ≡ qs
+plain_chooses told bs [] = refl
+plain_chooses told bs (q ∷ qs) = ap (λ ps. q ∷ ps) (plain_chooses told (drop 1 (coming told bs q.number)) qs)
+
+pub branched_chooses : (text : List ℕ) (cs : List (ChooseTree × Branch)) (b : AreBranched text cs) → map (λ c. c.0) cs ≡ by_number (all_chooses b.typed.defs)
+branched_chooses text cs b = ap (map (λ c. c.0)) b.are ∙ plain_chooses b.told [] (by_number (all_chooses b.typed.defs))
+
+map_same : (qs : List ChooseTree) → map (λ q. q) qs ≡ qs
+map_same [] = refl
+map_same (q ∷ qs) = ap (λ ps. q ∷ ps) (map_same qs)
 
 -- nor is one of whose chooses something is owed that says so
 abbrev IsWithin : ChooseTree → Type 0
@@ -81,19 +97,20 @@ within_unrefused text typed f s within h =
     typed_unrefused text typed f s
     (λ q m. All-contains IsWithin (by_number qs) q within (Contains-permutation qs (by_number qs) q (ordered_same qs) m)) h
 
-module _ (Is : ChooseTree → List ℕ → Type 0) (within : (q : ChooseTree) (text : List ℕ) → Is q text → IsWithin q) where
-  written_within : (qs : List ChooseTree) (text : List ℕ) → AllWritten Is qs text → All IsWithin qs
+module _ {Q : Type 0} (plain : Q → ChooseTree) (Is : Q → List ℕ → Type 0) (within : (c : Q) (text : List ℕ) → Is c text → IsWithin (plain c)) where
+  written_within : (cs : List Q) (text : List ℕ) → AllWritten Is cs text → All IsWithin (map plain cs)
   written_within [] text h = All-nil IsWithin
-  written_within (q ∷ qs) text h = All-cons IsWithin q qs (within q h.0 h.3) (written_within qs h.1 h.4)
+  written_within (c ∷ cs) text h = All-cons IsWithin (plain c) (map plain cs) (within c h.0 h.3) (written_within cs h.1 h.4)
 
-  written_unrefused : (text : List ℕ) (typed : TypedTree) (written : List ℕ) (f : Fault) → IsTypedSource text typed →
-      AllWritten Is (by_number (all_chooses typed.defs)) written → IsRefusedSource text f → ⊥
-  written_unrefused text typed written f s owed h =
-      within_unrefused text typed f s (written_within (by_number (all_chooses typed.defs)) written owed) h
+  written_unrefused : (text : List ℕ) (typed : TypedTree) (cs : List Q) (written : List ℕ) (f : Fault) → IsTypedSource text typed →
+      map plain cs ≡ by_number (all_chooses typed.defs) → AllWritten Is cs written → IsRefusedSource text f → ⊥
+  written_unrefused text typed cs written f s are owed h =
+      within_unrefused text typed f s (subst (All IsWithin) are (written_within cs written owed)) h
 
-pub pres_unrefused : (text : List ℕ) (typed : TypedTree) (pres : List ℕ) (f : Fault) → IsTypedSource text typed → ArePres typed pres → IsRefusedSource text f →
-    ⊥
-pres_unrefused text typed pres f s owed h = written_unrefused IsPreOf (λ q t p. p.within) text typed pres f s owed h
+pub pres_unrefused : (text : List ℕ) (cs : List (ChooseTree × Branch)) (pres : List ℕ) (f : Fault) → AreBranched text cs → ArePres cs pres →
+    IsRefusedSource text f → ⊥
+pres_unrefused text cs pres f b owed h =
+    written_unrefused (λ c. c.0) (λ c. IsPreOf c.0 c.1) (λ c t p. p.within) text b.typed cs pres f b.is (branched_chooses text cs b) owed h
 
 checks_within : (ms : List MatchTree) (told : List ToldChoose) (before : ℕ) (qs : List ChooseTree) (text : List ℕ) → AreChecksBehind ms told before qs text →
     All IsWithin qs

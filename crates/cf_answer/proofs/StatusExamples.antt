@@ -24,8 +24,8 @@ done = refl
 words-and_files : (number_of fault.Usage ≡ 2) × (number_of fault.File ≡ 3)
 words-and_files = (refl, refl)
 
-streams : (number_of fault.Input ≡ 4) × (number_of fault.Output ≡ 5) × (number_of fault.InputTooLong ≡ 11)
-streams = (refl, refl, refl)
+streams : (number_of fault.Input ≡ 4) × (number_of fault.Output ≡ 5) × (number_of fault.InputTooLong ≡ 11) × (number_of fault.OutputTooLong ≡ 10)
+streams = (refl, refl, refl, refl)
 
 texts : (number_of fault.TextTooLong ≡ 6) × (number_of (fault.BadByte place) ≡ 6) × (number_of (fault.NumberPast place) ≡ 6)
     × (number_of (fault.Syntax place) ≡ 6)

@@ -25,8 +25,9 @@ usage : fault_line fault.Usage ≡
     codes "usage: comfusy compile|pre|check|run|exec|prove FILE, or comfusy verify FILE STEPS, or comfusy gen N, or comfusy --help\n"
 usage = refl
 
-outside : map fault_line (fault.File ∷ fault.Input ∷ fault.Output ∷ fault.InputTooLong ∷ fault.NoMemory ∷ []) ≡
-    codes "cannot read file\n" ∷ codes "cannot read input\n" ∷ codes "cannot write output\n" ∷ codes "input too long\n" ∷ codes "no memory\n" ∷ []
+outside : map fault_line (fault.File ∷ fault.Input ∷ fault.Output ∷ fault.InputTooLong ∷ fault.OutputTooLong ∷ fault.NoMemory ∷ []) ≡
+    codes "cannot read file\n" ∷ codes "cannot read input\n" ∷ codes "cannot write output\n" ∷ codes "input too long\n" ∷ codes "text too long\n"
+    ∷ codes "no memory\n" ∷ []
 outside = refl
 
 texts : map fault_line (fault.TextTooLong ∷ fault.BadByte place ∷ fault.NumberPast place ∷ fault.Syntax place ∷ fault.BadTarget ∷ []) ≡

@@ -15,7 +15,7 @@ use Rattle.cf_program.specs.declared.linearity.Linearity.TheVariants.{Plain}
 use Rattle.cf_build.specs.Chooses.{chooses_in, all_chooses, limit_of}
 use Rattle.cf_gen.specs.Workload.{coefficient, coefficients, gen_source}
 use Rattle.cf_gen.proofs.ShortSources.{source_is_short}
-use Rattle.cf_answer.specs.Limits.{text_limit}
+use Rattle.cf_answer.specs.Limits.{text_limit, of_source}
 use Rattle.cf_answer.specs.Sources.{Spelled, IsTypedBy, IsTypedSource}
 use Rattle.cf_answer.specs.Workloads.{GenIsAccepted}
 use Rattle.cf_answer.proofs.SourceLemmas.{typed_unrefused}
@@ -77,7 +77,7 @@ module _ (n : ℕ) (l : 1 ≤ n) (h : n ≤ 100) where
       let two = sym (gen_edition n l) in
       let program = map item_def k.3 in (
         program,
-        subst (λ e. Spelled e (IsProgram e) (gen_source n) program) two
+        subst (λ e. Spelled (of_source e) (IsProgram e) (gen_source n) program) two
             (k.0, k.1, (short_source n l h, ([], k.2, refl)), is_program (n - 1) 1 (coefficients n) k.3 k.0 k.4 k.5),
         subst (λ e. IsTypedBy e Plain program workload_is_checked.typed) two workload_is_checked.is,
       )

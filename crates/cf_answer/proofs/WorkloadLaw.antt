@@ -16,6 +16,7 @@ use Rattle.cf_parse.proofs.Programs.{one_law}
 use Rattle.cf_program.specs.Checked.{TypedTree, checked}
 use Rattle.cf_program.specs.declared.linearity.Linearity.TheVariants.{Plain}
 use Rattle.cf_gen.specs.Workload.{coefficient, coefficients, gen_source, gen_lines, gen_sum}
+use Rattle.cf_answer.specs.Limits.{of_source}
 use Rattle.cf_answer.specs.Owed.{IsSum, sum_line}
 use Rattle.cf_answer.specs.Sources.{Spelled, IsTypedBy, IsTypedSource}
 use Rattle.cf_answer.specs.Workloads.{SumsAreOfQuotients}
@@ -36,7 +37,7 @@ record IsOfDefs (n : ℕ) (program : List RawItemTree) : Type 0 where
   is : program ≡ map item_def defs
   are : AreDefs (n - 1) 1 (coefficients n) defs
 
-only_program : (n : ℕ) → 1 ≤ n → n ≤ 100 → (program : List RawItemTree) → Spelled Two (IsProgram Two) (gen_source n) program → IsOfDefs n program
+only_program : (n : ℕ) → 1 ≤ n → n ≤ 100 → (program : List RawItemTree) → Spelled (of_source Two) (IsProgram Two) (gen_source n) program → IsOfDefs n program
 only_program n l h program s =
     let k = source_spelled n l h in
     let same = LexesTo-once Two (2 ^ 127 - 1) (gen_source n) k.0 s.0 k.1 s.1 at_end at_end ([], k.2, refl) s.2.1 in
@@ -53,10 +54,10 @@ coefficients_are n i (suc k) = All-cons IsCoefficient (coefficient n i) (map (co
     (coefficients_are n (i + 1) k)
 
 typed_in : (n : ℕ) → 1 ≤ n → (typed : TypedTree) → IsTypedSource (gen_source n) typed →
-    (program : List RawItemTree) × Spelled Two (IsProgram Two) (gen_source n) program × (checked Two Plain program ≡ Ok typed)
+    (program : List RawItemTree) × Spelled (of_source Two) (IsProgram Two) (gen_source n) program × (checked Two Plain program ≡ Ok typed)
 typed_in n l typed (program, s, is) =
     let two = gen_edition n l in
-    (program, subst (λ e. Spelled e (IsProgram e) (gen_source n) program) two s, subst (λ e. IsTypedBy e Plain program typed) two is)
+    (program, subst (λ e. Spelled (of_source e) (IsProgram e) (gen_source n) program) two s, subst (λ e. IsTypedBy e Plain program typed) two is)
 
 sum_is : (n passes : ℕ) (t : RawTarget) (typed : TypedTree) (sum : ℤ) → 1 ≤ n → n ≤ 100 → IsTypedSource (gen_source n) typed →
     IsSum t typed passes (lines (gen_lines n)) sum → sum ≡ gen_sum n

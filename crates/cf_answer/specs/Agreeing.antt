@@ -1,11 +1,12 @@
 -- How the commands agree with each other.
-use Rattle.std.specs.Prelude.{◌≡◌, ◌≤◌, ℕ, List, [], ◌∷◌, length}
+use Rattle.std.specs.Prelude.{◌≤◌, ℕ, List, [], ◌∷◌, length}
 use Rattle.cf_tree.specs.ChooseTree.{ChooseTree}
 use Rattle.cf_tree.specs.Solving.{HoldSomewhere}
 use Rattle.cf_tree.specs.Values.{Value, HaveBases}
 use Rattle.cf_build.specs.Chooses.{choose_arms}
 use Rattle.cf_choose.specs.Precondition.{all_needs}
 use Rattle.cf_eval.specs.Seen.{plains}
+use Rattle.cf_form.specs.Branches.{Branch}
 use Rattle.cf_pass.specs.Passes.{Told}
 use Rattle.cf_warn.specs.Solutions.{IsAt}
 use Rattle.cf_warn.specs.Verdicts.{IsExistence}
@@ -13,7 +14,8 @@ use Rattle.cf_warn.specs.declared.answer.ExistenceAnswer.{ExistenceAnswer}
 use Rattle.cf_warn.specs.declared.answer.ExistenceAnswer.TheVariants.{Always, Missing, Undecided}
 use Rattle.cf_words.specs.Commands.{compile, run, exec, prove, verify}
 use Rattle.cf_words.specs.declared.command.Flags.{Flags}
-use Rattle.cf_answer.specs.Limits.{text_limit}
+use Rattle.cf_lex.specs.Editions.{edition_of}
+use Rattle.cf_answer.specs.Limits.{of_target, most_of}
 use Rattle.cf_answer.specs.Owed.{IsPreOf, Owes}
 use Rattle.cf_answer.specs.Refusals.{IsAccepted}
 
@@ -21,7 +23,7 @@ use Rattle.cf_answer.specs.Refusals.{IsAccepted}
 abbrev pub ProvedIsVerified : Type 0
 ProvedIsVerified =
     (name other source : List ℕ) (given last : List Told) (ls : List (List ℕ)) (text : List ℕ) → Owes (prove name) (source ∷ []) given last ls text →
-    length text ≤ text_limit → (lines : List ℕ) × Owes (verify name other) (source ∷ text ∷ []) given last ls lines
+    length text ≤ most_of (of_target (edition_of source)) → (lines : List ℕ) × Owes (verify name other) (source ∷ text ∷ []) given last ls lines
 
 -- `exec` accepts what `compile` prints of a source, unless that is longer than a text may be, and replies what `run` may reply with the same flags
 pub record Runs (flags : Flags) (name source : List ℕ) (given last : List Told) (text : List ℕ) : Type 0 where
@@ -32,7 +34,7 @@ pub record Runs (flags : Flags) (name source : List ℕ) (given last : List Told
 abbrev pub CompiledIsRun : Type 0
 CompiledIsRun =
     (flags : Flags) (name source : List ℕ) (given last : List Told) (ls : List (List ℕ)) (text : List ℕ) →
-    Owes (compile flags name) (source ∷ []) given last ls text → length text ≤ text_limit → Runs flags name source given last text
+    Owes (compile flags name) (source ∷ []) given last ls text → length text ≤ most_of (of_target (edition_of source)) → Runs flags name source given last text
 
 -- where `check` finds that there always are outputs, the needs that `pre` writes hold at each environment, and where it finds that there are none at a
 -- sample, they hold at no environment of it
@@ -43,4 +45,5 @@ NeedsAre q (Undecided d) = Unit {0}
 
 abbrev pub NeedsAreChecked : Type 0
 NeedsAreChecked =
-    (q : ChooseTree) (text : List ℕ) (answer : ExistenceAnswer) → IsPreOf q text → IsExistence q.scope q.outputs q.relation answer → NeedsAre q answer
+    (q : ChooseTree) (branch : Branch) (text : List ℕ) (answer : ExistenceAnswer) → IsPreOf q branch text →
+    IsExistence q.scope q.outputs q.relation answer → NeedsAre q answer

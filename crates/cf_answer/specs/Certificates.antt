@@ -3,7 +3,8 @@ use Rattle.std.specs.Prelude.{◌≡◌, ℕ, List, [], ◌∷◌, map, codes, N
 use Rattle.cf_program.specs.Checked.{TypedTree}
 use Rattle.cf_tree.specs.ChooseTree.{ChooseTree}
 use Rattle.cf_build.specs.Chooses.{all_chooses, by_number, limit_of}
-use Rattle.cf_steps.specs.Blocks.{BlockTree, block_tree}
+use Rattle.cf_form.specs.Branches.{Branch}
+use Rattle.cf_steps.specs.Blocks.{BlockTree, block_tree, in_branch}
 use Rattle.cf_steps.specs.Printed.{blocks_text}
 use Rattle.cf_steps.specs.ReadsBack.{ReadsBack}
 use Rattle.cf_steps.specs.Spelling.{AreBlocks}
@@ -11,7 +12,9 @@ use Rattle.cf_steps.specs.declared.block.Block.{Block}
 use Rattle.cf_cert.specs.Certifying.{Certifies}
 use Rattle.cf_cert.specs.Laws.{MeansSolutions}
 use Rattle.cf_prove.specs.Tracing.{traced_block}
-use Rattle.cf_tree.specs.declared.base.Edition.TheVariants.{Two}
+use Rattle.cf_tree.specs.declared.base.Edition.{Edition}
+use Rattle.cf_answer.specs.Branches.{head_of}
+use Rattle.cf_answer.specs.Limits.{of_target}
 use Rattle.cf_answer.specs.Sources.{Spelled}
 use Rattle.cf_answer.specs.Texts.{numbered_line}
 
@@ -32,21 +35,28 @@ pub record IsProofOf (q : ChooseTree) (b : BlockTree) : Type 0 where
   pub means : MeansSolutions q b
 
 -- ---- prove
--- the choose passes no limit, and the block has the steps of its traces and its code
+-- the choose passes no limit, and the block names some branch and has the steps of its traces and its code
 pub record IsTraced (q : ChooseTree) (b : Block) : Type 0 where
   pub within : limit_of q ≡ None
-  pub is : block_tree b ≡ traced_block q
+  pub is : block_tree b ≡ in_branch b.truths.items (traced_block q)
   pub proves : IsProofOf q (block_tree b)
 
--- the printed blocks of chooses in order, which are read back to these blocks alone
-abbrev pub AreProofs : List ChooseTree → List ℕ → Type 0
-AreProofs qs text = (bs : List Block) × OneForEach IsTraced qs bs × (text ≡ blocks_text bs) × ReadsBack (map block_tree bs) text
+-- each block names the branch of its choose
+abbrev pub AreHeaded : List (ChooseTree × Branch) → List BlockTree → Type 0
+AreHeaded cs bs = map (λ b. b.truths) bs ≡ map head_of cs
+
+-- the printed blocks of chooses in their branches, in order, which are read back to these blocks alone
+abbrev pub AreProofs : Edition → List (ChooseTree × Branch) → List ℕ → Type 0
+AreProofs edition cs text =
+    (bs : List Block) × OneForEach IsTraced (map (λ c. c.0) cs) bs × AreHeaded cs (map block_tree bs) × (text ≡ blocks_text bs)
+    × ReadsBack edition (map block_tree bs) text
 
 -- ---- verify
 -- choose N: verified
 abbrev pub verified_line : ChooseTree → List ℕ
 verified_line q = numbered_line q.number (codes "verified")
 
--- the text spells blocks, one for each choose in order, which prove these chooses
-abbrev pub AreVerified : List ChooseTree → List ℕ → Type 0
-AreVerified qs steps = (bs : List BlockTree) × Spelled Two AreBlocks steps bs × OneForEach IsProofOf qs bs
+-- the text of a steps file spells blocks for a source of this edition, one for each choose in its branch, in order, which prove these chooses
+abbrev pub AreVerified : Edition → List (ChooseTree × Branch) → List ℕ → Type 0
+AreVerified edition cs steps =
+    (bs : List BlockTree) × Spelled (of_target edition) (AreBlocks edition) steps bs × AreHeaded cs bs × OneForEach IsProofOf (map (λ c. c.0) cs) bs

@@ -1,5 +1,7 @@
--- The files that each command reads, whether it reads the input, and what it does with the passes.
-use Rattle.std.specs.Prelude.{ℕ, Bool, true, false, not, List, [], ◌∷◌}
+-- The files that each command reads, whether it reads the input, what it does with the passes, and how much it takes and writes.
+use Rattle.std.specs.Prelude.{ℕ, Bool, true, false, not, List, [], ◌∷◌, Option, None}
+use Rattle.cf_answer.specs.Limits.{text_limit, written_limit, written_most, of_target, most_of}
+use Rattle.cf_tree.specs.declared.base.Edition.{Edition}
 use Rattle.cf_words.specs.Commands.{Command, compile, run, pre, check, exec, prove, verify, gen, help, version}
 
 -- the names of the files that it reads, in order
@@ -32,3 +34,15 @@ abbrev pub tells_tallies : Command → Bool
 tells_tallies (compile flags file) = flags.stats
 tells_tallies (run flags file) = flags.stats
 tells_tallies command = false
+
+-- the most bytes that it takes of a file, where its first is of this edition: which one a target is of is known only when it was read
+abbrev pub text_most : Command → Edition → ℕ
+text_most (exec file) edition = written_limit
+text_most (verify file steps) edition = most_of (of_target edition)
+text_most command edition = text_limit
+
+-- the most bytes that it writes, where its source is of this edition, if there is a limit
+abbrev pub output_most : Command → Edition → Option ℕ
+output_most (compile flags file) edition = written_most edition
+output_most (prove file) edition = written_most edition
+output_most command edition = None

@@ -1,17 +1,19 @@
 -- How a command ends.
-use Rattle.std.specs.Prelude.{◌≡◌, ◌⊎◌, ℕ, ◌+◌, ◌≤◌, ◌<◌, Bool, true, false, List, []}
-use Rattle.std.specs.Prelude.{◌++◌, length, take, nat_le, if◌then◌else◌, Option, Some, None, Result, Ok, Err}
+use Rattle.std.specs.Prelude.{◌≡◌, ◌⊎◌, ℕ, ◌+◌, ◌≤◌, Bool, true, false, List, []}
+use Rattle.std.specs.Prelude.{◌++◌, length, if◌then◌else◌, Option, Some, None, Result, Ok, Err}
 use Rattle.std.specs.Io.KnownBytes.{Appends, Consumes, IsAtEnd}
 use Rattle.cf_io.specs.Bytes.{TookPrefix}
 use Rattle.cf_io.specs.Causes.{Rose}
-use Rattle.cf_io.specs.Limits.{input_limit}
+use Rattle.cf_io.specs.Cut.{within}
+use Rattle.cf_io.specs.Limits.{is_within, IsWithin, IsPast}
 use Rattle.cf_io.specs.Lines.{lines, ended}
 use Rattle.cf_io.specs.Seen.{ShelfSeen}
 use Rattle.cf_pass.specs.Passes.{Told}
 use Rattle.cf_program.specs.Checked.{TypedTree}
 use Rattle.cf_words.specs.Commands.{Command, verify}
-use Rattle.cf_answer.specs.Commands.{names_of, reads_input, calls_passes}
-use Rattle.cf_answer.specs.Outside.{Outside, Streams, AreTold, AreTexts, Counts, Blames, IsFrugal, IsSparing}
+use Rattle.cf_answer.specs.Commands.{names_of, reads_input, calls_passes, text_most, output_most}
+use Rattle.cf_answer.specs.Limits.{edition_for, input_most}
+use Rattle.cf_answer.specs.Outside.{Outside, Streams, Taken, AreTold, AreTexts, Counts, Blames, IsFrugal, IsSparing}
 use Rattle.cf_answer.specs.Owed.{Owes}
 use Rattle.cf_answer.specs.Passes.{ArePassed, closing}
 use Rattle.cf_answer.specs.Refusals.{Refuses}
@@ -25,13 +27,13 @@ use Rattle.cf_answer.specs.declared.status.Status.TheVariants.{File}
 abbrev pub input_for : Command → List ℕ → List ℕ
 input_for command input = if reads_input command then input else []
 
--- the lines that are answered: all, or where the input is too long those whose line feed stands within the limit
-abbrev pub answered_lines : List ℕ → List (List ℕ)
-answered_lines input = if nat_le (length input) input_limit then lines input else ended (take input_limit input)
+-- the lines that are answered: all, or where the input is past its limit those whose line feed stands within the limit
+abbrev pub answered_lines : Option ℕ → List ℕ → List (List ℕ)
+answered_lines most input = if is_within most (length input) then lines input else ended (within most input)
 
--- what stands behind the answers: the closing, or where the input is too long nothing
-abbrev pub behind_lines : List ℕ → List ℕ → List ℕ
-behind_lines input end = if nat_le (length input) input_limit then end else []
+-- what stands behind the answers: the closing, or where the input is past its limit nothing
+abbrev pub behind_lines : Option ℕ → List ℕ → List ℕ → List ℕ
+behind_lines most input end = if is_within most (length input) then end else []
 
 -- these first bytes of the input were read, and none by a command that reads no input
 abbrev pub Reads : Bool → Option (List ℕ) → Option (List ℕ) → List ℕ → Type 0
@@ -50,12 +52,13 @@ pub record Job : Type 0 where
   pub given : List Told
   pub passes : List Told
 
--- so much of the input was read, and `out` took what is owed for these lines and then `end`, as far as Took says
+-- so much of the input was read, and `out` took what is owed for these lines and then `end`, which is within the limit of what is written, as far as Took says
 pub record Wrote (job : Job) (before after : Streams) (Took : Option (List ℕ) → Option (List ℕ) → List ℕ → Type 0) (front : List ℕ) (ls : List (List ℕ))
     (end : List ℕ) : Type 0 where
   pub text : List ℕ
   pub read : Reads (reads_input job.command) before.input.left after.input.left front
   pub owed : Owes job.command job.files job.given job.passes ls text
+  pub fits : IsWithin (output_most job.command (edition_for job.files)) (length (text ++ end))
   pub took : Took before.out.held after.out.held (text ++ end)
 
 -- what a command that is done writes behind all else
@@ -66,20 +69,24 @@ closing_of job = closing job.command job.passes
 abbrev pub IsStopped : Job → Streams → Streams → Type 0
 IsStopped job before after =
     (front : List ℕ) × (rest : List ℕ) × AreTold after.input.left rest
-    × Wrote job before after TookPrefix front (answered_lines (input_for job.command (front ++ rest)))
-    (behind_lines (input_for job.command (front ++ rest)) (closing_of job))
+    × Wrote job before after TookPrefix front (answered_lines (input_most job.files) (input_for job.command (front ++ rest)))
+    (behind_lines (input_most job.files) (input_for job.command (front ++ rest)) (closing_of job))
 
 -- Done: all was read, and all that is owed was written. The input failed: the lines were answered whose line feed was read. The input is too long: those
--- were whose line feed stands within the limit. `out` failed, or memory ran out: a prefix was written of what is owed. The file failed: nothing was written,
+-- were whose line feed stands within the limit. What is owed is past the limit of what is written: nothing was written. `out` failed, or memory ran out:
+-- a prefix was written of what is owed. The file failed: nothing was written,
 -- and no pass was called. It is refused: nothing was written.
 abbrev pub Ends : Job → Streams → Streams → Result (Unit {0}) Fault → Type 0
 Ends job before after (Ok done) =
-    (front : List ℕ) × IsReadUp (reads_input job.command) after.input.left × (length front ≤ input_limit) × Wrote job before after Appends front (lines front)
-    (closing_of job)
+    (front : List ℕ) × IsReadUp (reads_input job.command) after.input.left × IsWithin (input_most job.files) (length front)
+    × Wrote job before after Appends front (lines front) (closing_of job)
 Ends job before after (Err fault.Input) =
-    (front : List ℕ) × (reads_input job.command ≡ true) × (length front ≤ input_limit) × Wrote job before after Appends front (ended front) []
+    (front : List ℕ) × (reads_input job.command ≡ true) × IsWithin (input_most job.files) (length front) × Wrote job before after Appends front (ended front) []
 Ends job before after (Err fault.InputTooLong) =
-    (front : List ℕ) × (input_limit < length front) × Wrote job before after Appends front (ended (take input_limit front)) []
+    (front : List ℕ) × IsPast (input_most job.files) (length front) × Wrote job before after Appends front (ended (within (input_most job.files) front)) []
+Ends job before after (Err fault.OutputTooLong) =
+    (text : List ℕ) × Owes job.command job.files job.given job.passes [] text
+    × IsPast (output_most job.command (edition_for job.files)) (length (text ++ closing_of job)) × (after.out.held ≡ before.out.held)
 Ends job before after (Err fault.Output) = IsStopped job before after
 Ends job before after (Err fault.NoMemory) = IsStopped job before after ⊎ (after.out.held ≡ before.out.held)
 Ends job before after (Err fault.File) = (after.out.held ≡ before.out.held) × (job.passes ≡ job.given)
@@ -96,11 +103,15 @@ pub record AnswersOn (command : Command) (given last : List Told) (files : List 
     pub passed : ArePassed (calls_passes command) given last
     pub spared : AreSpared command files given last
     pub ends : Ends (record { command = command; files = files; given = given; passes = last }) before after answer
-    pub sparing : IsSparing before.input after.input
+    pub sparing : IsSparing (input_most files) before.input after.input
     pub input : Counts (answer ≡ Err fault.Input) before.input.faults after.input.faults
     pub out : Counts (answer ≡ Err fault.Output) before.out.faults after.out.faults
     pub not_usage : answer ≡ Err fault.Usage → ⊥
     pub not_file : answer ≡ Err fault.File → ⊥
+
+-- how much a command may take with these files
+abbrev pub taken_by : Command → List (List ℕ) → Taken
+taken_by command files = record { text = text_most command (edition_for files); input = input_most files }
 
 -- The texts of the files, as far as they are told; what the passes told before and last; how it ends, which object failed, and what was taken of the files
 -- and of the input.
@@ -111,7 +122,7 @@ pub record Does (command : Command) (given last : List Told) (before after : Out
   pub spared : AreSpared command files given last
   pub ends : Ends (record { command = command; files = files; given = given; passes = last }) before.streams after.streams answer
   pub blames : Blames (names_of command) before after answer
-  pub frugal : IsFrugal (names_of command) before after
+  pub frugal : IsFrugal (taken_by command files) (names_of command) before after
 
 -- What the words ask. Where they are no command, they are refused, or memory ran out while they were read, and nothing is done.
 abbrev pub Answers : Option Command → List Told → List Told → Outside → Outside → Result (Unit {0}) Fault → Type 0

@@ -1,5 +1,6 @@
 pub mod About
 pub mod Agreeing
+pub mod Branches
 pub mod Certificates
 pub mod Checking
 pub mod Checks

@@ -1,10 +1,10 @@
 -- What the objects outside tell, and what a call may take of them.
-use Rattle.std.specs.Prelude.{◌≡◌, ◌⊎◌, ℕ, ◌+◌, ◌*◌, ◌≤◌, List, [], ◌∷◌, length, Option, Some, None, Contains, Result, Err}
+use Rattle.std.specs.Prelude.{◌≡◌, ◌⊎◌, ℕ, ◌+◌, ◌-◌, ◌*◌, ◌≤◌, List, [], ◌∷◌, length, Option, Some, None, Contains, Result, Err}
+use Rattle.std.specs.Io.KnownBytes.{Consumes}
 use Rattle.cf_io.specs.Bytes.{TookFront}
 use Rattle.cf_io.specs.Causes.{one_more}
-use Rattle.cf_io.specs.Limits.{input_limit}
+use Rattle.cf_io.specs.Limits.{IsWithin}
 use Rattle.cf_io.specs.Seen.{ShelfSeen, SinkSeen, SourceSeen}
-use Rattle.cf_answer.specs.Limits.{text_limit}
 use Rattle.cf_answer.specs.declared.fault.Fault.{Fault}
 use Rattle.cf_answer.specs.declared.fault.Fault.TheVariants as fault
 
@@ -48,18 +48,28 @@ pub record Blames (names : List (List ℕ)) (before after : Outside) (answer : R
   pub input : Counts (answer ≡ Err fault.Input) before.streams.input.faults after.streams.input.faults
   pub out : Counts (answer ≡ Err fault.Output) before.streams.out.faults after.streams.out.faults
 
--- of an input at most one byte more than the limit was read, and reads gave no more; its end was seen at most once
-pub record IsSparing (before after : SourceSeen) : Type 0 where
-  pub front : TookFront (input_limit + 1) before.left after.left
-  pub given : after.given ≤ before.given + (input_limit + 1)
+-- one byte more than a limit, where there is one
+abbrev pub one_past : Option ℕ → Option ℕ
+one_past None = None
+one_past (Some most) = Some (most + 1)
+
+-- of an input at most one byte more than its limit was read, and reads gave no more; its end was seen at most once
+pub record IsSparing (most : Option ℕ) (before after : SourceSeen) : Type 0 where
+  pub front : (front : List ℕ) × IsWithin (one_past most) (length front) × Consumes before.left after.left front
+  pub given : IsWithin (one_past most) (after.given - before.given)
   pub ends : after.ends ≤ before.ends + 1
 
--- No more texts were fetched than there are names. Of the last one, and of the input, at most one byte more than the limit was read. Of all of them reads
+-- the most bytes of a text that are taken, and of the input
+pub record Taken : Type 0 where
+  pub text : ℕ
+  pub input : Option ℕ
+
+-- No more texts were fetched than there are names. Of the last one, and of the input, at most one byte more than its limit was read. Of all of them reads
 -- gave at most as much for each name, and showed at most one end for each.
-pub record IsFrugal (names : List (List ℕ)) (before after : Outside) : Type 0 where
+pub record IsFrugal (taken : Taken) (names : List (List ℕ)) (before after : Outside) : Type 0 where
   pub fetches : after.shelf.fetches ≤ before.shelf.fetches + length names
   pub file : (after.shelf.left ≡ before.shelf.left) ⊎
-      ((name : List ℕ) × Contains names name × TookFront (text_limit + 1) (before.shelf.texts name) after.shelf.left)
-  pub given : after.shelf.given ≤ before.shelf.given + length names * (text_limit + 1)
+      ((name : List ℕ) × Contains names name × TookFront (taken.text + 1) (before.shelf.texts name) after.shelf.left)
+  pub given : after.shelf.given ≤ before.shelf.given + length names * (taken.text + 1)
   pub ends : after.shelf.ends ≤ before.shelf.ends + length names
-  pub input : IsSparing before.streams.input after.streams.input
+  pub input : IsSparing taken.input before.streams.input after.streams.input

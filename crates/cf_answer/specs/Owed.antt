@@ -21,7 +21,9 @@ use Rattle.cf_eval.specs.Replies.{IsReply}
 use Rattle.cf_pass.specs.Passes.{Told}
 use Rattle.cf_words.specs.Commands.{Command, compile, run, pre, check, exec, prove, verify, gen, help, version}
 use Rattle.cf_answer.specs.About.{help_text, version_text}
-use Rattle.cf_answer.specs.Certificates.{asked_in, AreProofs, AreVerified, verified_line}
+use Rattle.cf_form.specs.Branches.{Branch}
+use Rattle.cf_answer.specs.Branches.{AreBranched, valued}
+use Rattle.cf_answer.specs.Certificates.{AreProofs, AreVerified, verified_line}
 use Rattle.cf_answer.specs.Checks.{AreChecksBehind}
 use Rattle.cf_answer.specs.LateReplies.{IsLateReply, AreRunsAllowed}
 use Rattle.cf_answer.specs.Passes.{AreCalled, applied}
@@ -67,20 +69,20 @@ pub record IsPrinted (edition : Edition) (t : RawTarget) (text : List ℕ) : Typ
   pub is : text ≡ target_text edition t
   pub reads_back : ReadsBack edition (target_tree t) text
 
--- a choose passes no limit, and this is the printed form of the needs of its arms, which hold exactly where there are outputs
-pub record IsPreOf (q : ChooseTree) (text : List ℕ) : Type 0 where
+-- a choose passes no limit, and this is the printed form of the needs of its arms in a branch, which hold exactly where there are outputs
+pub record IsPreOf (q : ChooseTree) (branch : Branch) (text : List ℕ) : Type 0 where
   pub within : limit_of q ≡ None
-  pub is : text ≡ pre_text q.number q.names (all_needs (choose_arms q))
+  pub is : text ≡ pre_text q.number (valued 0 q.names branch) (all_needs (choose_arms q))
   pub holds : IsPrecondition q.scope q.outputs q.relation (all_needs (choose_arms q))
 
 -- what is written of chooses in order, where Is says what is written of each
-abbrev pub AllWritten : (ChooseTree → List ℕ → Type 0) → List ChooseTree → List ℕ → Type 0
+abbrev pub AllWritten : {Q : Type 0} → (Q → List ℕ → Type 0) → List Q → List ℕ → Type 0
 AllWritten Is [] text = text ≡ []
 AllWritten Is (q ∷ qs) text = (first : List ℕ) × (more : List ℕ) × (text ≡ first ++ more) × Is q first × AllWritten Is qs more
 
--- the preconditions of the chooses of a program, in the order of their numbers
-abbrev pub ArePres : TypedTree → List ℕ → Type 0
-ArePres typed text = AllWritten IsPreOf (by_number (all_chooses typed.defs)) text
+-- the preconditions of chooses in their branches, in order
+abbrev pub ArePres : List (ChooseTree × Branch) → List ℕ → Type 0
+ArePres cs text = AllWritten (λ c. IsPreOf c.0 c.1) cs text
 
 -- the lines of its chooses, of which this is told, and of its matches, in the order of their numbers, which are at least 1
 abbrev pub AreChecks : List ToldChoose → TypedTree → List ℕ → Type 0
@@ -108,12 +110,13 @@ abbrev pub Owes : Command → List (List ℕ) → List Told → List Told → Li
 Owes (compile flags name) (file ∷ []) given last ls text =
     (t : RawTarget) × IsCompiledBy (not flags.plain) file given last t × IsPrinted (edition_of file) t text
 Owes (run flags name) (file ∷ []) given last ls text = OwesRun (not flags.plain) file given last ls text
-Owes (pre name) (file ∷ []) given last ls text = (typed : TypedTree) × IsTypedSource file typed × ArePres typed text
+Owes (pre name) (file ∷ []) given last ls text = (cs : List (ChooseTree × Branch)) × AreBranched file cs × ArePres cs text
 Owes (check name) (file ∷ []) given last ls text = AreSourceChecks file text
 Owes (exec name) (file ∷ []) given last ls text = (t : RawTarget) × IsTypedTarget file (target_tree t) × AreReplies (by_target t) ls text
-Owes (prove name) (file ∷ []) given last ls text = (typed : TypedTree) × IsTypedSource file typed × AreProofs (asked_in typed) text
+Owes (prove name) (file ∷ []) given last ls text = (cs : List (ChooseTree × Branch)) × AreBranched file cs × AreProofs (edition_of file) cs text
 Owes (verify name steps_name) (source ∷ steps ∷ []) given last ls text =
-    (typed : TypedTree) × IsTypedSource source typed × AreVerified (asked_in typed) steps × (text ≡ flat_map verified_line (asked_in typed))
+    (cs : List (ChooseTree × Branch)) × AreBranched source cs × AreVerified (edition_of source) cs steps
+    × (text ≡ flat_map (λ c. verified_line c.0) cs)
 Owes (gen n) [] given last ls text =
     (t : RawTarget) × IsCompiledBy true (gen_source n) given last t × (typed : TypedTree) × IsTypedSource (gen_source n) typed
     × (sum : ℤ) × IsSum t typed (length last) (lines (gen_lines n)) sum × (text ≡ sum_line (n * n) sum)

@@ -6,7 +6,8 @@ use Rattle.cf_lex.specs.Editions.{edition_of}
 use Rattle.cf_lex.specs.Tokens.{bad_byte, past_limit, at_end}
 use Rattle.cf_tree.specs.declared.base.Place.{Place}
 use Rattle.cf_tree.specs.declared.base.Edition.{Edition}
-use Rattle.cf_tree.specs.declared.base.Edition.TheVariants.{Two, Three}
+use Rattle.cf_tree.specs.declared.base.Edition.TheVariants.{Three}
+use Rattle.cf_tree.specs.ChooseTree.{ChooseTree}
 use Rattle.cf_tree.specs.DefView.{RawItemTree}
 use Rattle.cf_reader.specs.Faults.{IsFaultPlace, IsFaultPlaceOf}
 use Rattle.cf_reader.specs.Readers.{Reader}
@@ -30,12 +31,12 @@ use Rattle.cf_build.specs.declared.fault.BuildFault.TheVariants as build
 use Rattle.cf_steps.specs.Blocks.{BlockTree}
 use Rattle.cf_steps.specs.Reading.{all_blocks}
 use Rattle.cf_steps.specs.Spelling.{AreBlocks}
-use Rattle.cf_cert.specs.Judging.{IsVerdict}
+use Rattle.cf_form.specs.Branches.{Branch}
 use Rattle.cf_cert.specs.declared.verdict.Verdict.TheVariants.{Rejected}
 use Rattle.cf_cert.specs.declared.verdict.Why.{Why}
 use Rattle.cf_words.specs.Commands.{Command, compile, run, pre, check, exec, prove, verify, gen}
-use Rattle.cf_answer.specs.Certificates.{asked_in}
-use Rattle.cf_answer.specs.Limits.{text_limit}
+use Rattle.cf_answer.specs.Branches.{AreBranched, IsVerdictIn}
+use Rattle.cf_answer.specs.Limits.{TextKind, of_source, of_target, most_of}
 use Rattle.cf_answer.specs.Sources.{HasTokens, Spelled, IsTypedBy, IsTypedSource, IsTypedTree}
 use Rattle.cf_answer.specs.declared.fault.Fault.{Fault}
 use Rattle.cf_answer.specs.declared.fault.Fault.TheVariants as fault
@@ -48,16 +49,16 @@ pub record IsSyntaxPlace {Tree : Type 0} (Is : Tree → List Token → Type 0) (
   pub dead : IsFaultPlace (λ us. (x : Tree) × Is x us) ts end p
   pub exact : IsFaultPlaceOf read ts end p
 
--- Why a text with the tokens of an edition is refused, whatever they are to spell: Is says which tokens spell a tree, `read` reads it, and Bad says for
--- which faults it is refused.
-pub data Causes {Tree : Type 0} (edition : Edition) (Is : Tree → List Token → Type 0) (read : Reader Tree) (Bad : Tree → Fault → Type 0) (text : List ℕ) :
+-- Why a text of a kind is refused, whatever its tokens are to spell: Is says which tokens spell a tree, `read` reads it, and Bad says for which faults it is
+-- refused.
+pub data Causes {Tree : Type 0} (kind : TextKind) (Is : Tree → List Token → Type 0) (read : Reader Tree) (Bad : Tree → Fault → Type 0) (text : List ℕ) :
     Fault → Type 0 where
-  too_long : text_limit < length text → Causes edition Is read Bad text fault.TextTooLong
-  odd_byte : (ts : List Token) (p : Place) → HasTokens edition text ts p bad_byte → Causes edition Is read Bad text (fault.BadByte p)
-  large_number : (ts : List Token) (p : Place) → HasTokens edition text ts p past_limit → Causes edition Is read Bad text (fault.NumberPast p)
-  no_tree : (ts : List Token) (end p : Place) → HasTokens edition text ts end at_end → ((x : Tree) → Is x ts → ⊥) → IsSyntaxPlace Is read ts end p →
-      Causes edition Is read Bad text (fault.Syntax p)
-  bad_tree : (x : Tree) (f : Fault) → Spelled edition Is text x → Bad x f → Causes edition Is read Bad text f
+  too_long : most_of kind < length text → Causes kind Is read Bad text fault.TextTooLong
+  odd_byte : (ts : List Token) (p : Place) → HasTokens kind text ts p bad_byte → Causes kind Is read Bad text (fault.BadByte p)
+  large_number : (ts : List Token) (p : Place) → HasTokens kind text ts p past_limit → Causes kind Is read Bad text (fault.NumberPast p)
+  no_tree : (ts : List Token) (end p : Place) → HasTokens kind text ts end at_end → ((x : Tree) → Is x ts → ⊥) → IsSyntaxPlace Is read ts end p →
+      Causes kind Is read Bad text (fault.Syntax p)
+  bad_tree : (x : Tree) (f : Fault) → Spelled kind Is text x → Bad x f → Causes kind Is read Bad text f
 
 -- why a program is not built
 abbrev pub fault_of : BuildFault → Fault
@@ -94,7 +95,7 @@ pub data IsBadTarget (t : TargetTree) : Fault → Type 0 where
 
 -- why the text of a source is refused, where Bad says for which faults a program of an edition is
 abbrev pub CausesOf : (Edition → List RawItemTree → Fault → Type 0) → List ℕ → Fault → Type 0
-CausesOf Bad text f = Causes (edition_of text) (IsProgram (edition_of text)) (program_of (edition_of text) 200) (Bad (edition_of text)) text f
+CausesOf Bad text f = Causes (of_source (edition_of text)) (IsProgram (edition_of text)) (program_of (edition_of text) 200) (Bad (edition_of text)) text f
 
 -- the fault for which the text of a source is refused, also by `run`, and that of a target
 abbrev pub IsRefusedSource : List ℕ → Fault → Type 0
@@ -104,7 +105,7 @@ abbrev pub IsRefusedRun : List ℕ → Fault → Type 0
 IsRefusedRun text f = CausesOf IsBadRun text f
 
 abbrev pub IsRefusedTarget : List ℕ → Fault → Type 0
-IsRefusedTarget text f = Causes Two (IsTarget (edition_of text)) (target_of (edition_of text) 500) IsBadTarget text f
+IsRefusedTarget text f = Causes (of_target (edition_of text)) (IsTarget (edition_of text)) (target_of (edition_of text) 500) IsBadTarget text f
 
 -- ---- verify
 -- a program whose chooses are not solved is refused by its rules alone
@@ -118,15 +119,17 @@ text_fault (steps_fault.BadByte p) = fault.BadByte p
 text_fault (steps_fault.NumberPast p) = fault.NumberPast p
 text_fault (steps_fault.Syntax p) = fault.Syntax p
 
-abbrev pub IsRefusedSteps : List ℕ → StepsFault → Type 0
-IsRefusedSteps text e = Causes Two AreBlocks (all_blocks 500) (λ bs f. ⊥) text (text_fault e)
+abbrev pub IsRefusedSteps : Edition → List ℕ → StepsFault → Type 0
+IsRefusedSteps edition text e = Causes (of_target edition) (AreBlocks edition) (all_blocks edition 500) (λ bs f. ⊥) text (text_fault e)
 
 -- Why steps are not accepted for a source: the source is refused, whatever the steps are; or their text is; or there is a first fault in their blocks.
 pub data IsUnverified (source steps : List ℕ) : Fault → Type 0 where
   bad_source : (f : Fault) → IsBrokenSource source f → IsUnverified source steps f
-  bad_steps : (typed : TypedTree) (e : StepsFault) → IsTypedSource source typed → IsRefusedSteps steps e → IsUnverified source steps (fault.Steps e)
-  bad_blocks : (typed : TypedTree) (bs : List BlockTree) (n i j : ℕ) (w : Why) → IsTypedSource source typed → Spelled Two AreBlocks steps bs →
-      IsVerdict (asked_in typed) bs (Rejected n i j w) → IsUnverified source steps (fault.Rejected n i j w)
+  bad_steps : (typed : TypedTree) (e : StepsFault) → IsTypedSource source typed → IsRefusedSteps (edition_of source) steps e →
+      IsUnverified source steps (fault.Steps e)
+  bad_blocks : (cs : List (ChooseTree × Branch)) (bs : List BlockTree) (n i j : ℕ) (w : Why) → AreBranched source cs →
+      Spelled (of_target (edition_of source)) (AreBlocks (edition_of source)) steps bs → IsVerdictIn cs bs (Rejected n i j w) →
+      IsUnverified source steps (fault.Rejected n i j w)
 
 -- the fault for which a command is refused on files of these texts, or on a source of its own
 abbrev pub Refuses : Command → List (List ℕ) → Fault → Type 0

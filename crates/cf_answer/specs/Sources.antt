@@ -24,19 +24,19 @@ use Rattle.cf_match.specs.Matches.{all_matches, match_tree}
 use Rattle.cf_match.specs.declared.lowered.LoweredParts.{LoweredParts}
 use Rattle.cf_build.specs.Built.{IsBuilt}
 use Rattle.cf_warn.specs.Classes.{AreClasses}
-use Rattle.cf_answer.specs.Limits.{text_limit}
+use Rattle.cf_answer.specs.Limits.{TextKind, of_source, of_target, tokens_of, most_of}
 
--- the text is not too long, and has these tokens of an edition up to its end or its first fault, which is at this place
-abbrev pub HasTokens : Edition → List ℕ → List Token → Place → Ending → Type 0
-HasTokens edition text ts p ending = (length text ≤ text_limit) × LexesTo edition (2 ^ 127 - 1) text ts p ending
+-- a text of a kind is not too long, and has these tokens up to its end or its first fault, which is at this place
+abbrev pub HasTokens : TextKind → List ℕ → List Token → Place → Ending → Type 0
+HasTokens kind text ts p ending = (length text ≤ most_of kind) × LexesTo (tokens_of kind) (2 ^ 127 - 1) text ts p ending
 
--- the text spells this tree by the tokens of an edition, where Is says which tokens spell a tree
-abbrev pub Spelled : {Tree : Type 0} → Edition → (Tree → List Token → Type 0) → List ℕ → Tree → Type 0
-Spelled edition Is text x = (ts : List Token) × (end : Place) × HasTokens edition text ts end at_end × Is x ts
+-- a text of a kind spells this tree, where Is says which tokens spell a tree
+abbrev pub Spelled : {Tree : Type 0} → TextKind → (Tree → List Token → Type 0) → List ℕ → Tree → Type 0
+Spelled kind Is text x = (ts : List Token) × (end : Place) × HasTokens kind text ts end at_end × Is x ts
 
 -- the text spells this program in its edition
 abbrev pub SpellsProgram : List ℕ → List RawItemTree → Type 0
-SpellsProgram text program = Spelled (edition_of text) (IsProgram (edition_of text)) text program
+SpellsProgram text program = Spelled (of_source (edition_of text)) (IsProgram (edition_of text)) text program
 
 -- a program of an edition in which no rule is broken, with levels in the place of names; one of edition 3 has the forms of language 2
 abbrev pub IsTypedBy : Edition → Linearity → List RawItemTree → TypedTree → Type 0
@@ -81,4 +81,4 @@ IsTypedTree t = IsTypedCode t.code t.params t.results
 
 -- the text spells this target, by its header one of edition 3 or of language 2, and it is well typed
 abbrev pub IsTypedTarget : List ℕ → TargetTree → Type 0
-IsTypedTarget text t = Spelled Two (IsTarget (edition_of text)) text t × IsTypedTree t
+IsTypedTarget text t = Spelled (of_target (edition_of text)) (IsTarget (edition_of text)) text t × IsTypedTree t

@@ -59,6 +59,7 @@ fault_status (fault.Rejected n i j w) = Rejected
 fault_status fault.Input = Input
 fault_status fault.Output = Output
 fault_status fault.InputTooLong = InputLong
+fault_status fault.OutputTooLong = Limit
 fault_status fault.NoMemory = NoMemory
 
 abbrev pub status_of : Result (Unit {0}) Fault → Status

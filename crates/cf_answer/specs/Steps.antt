@@ -1,10 +1,10 @@
 -- How far an input was answered; for the contracts within the crate.
-use Rattle.std.specs.Prelude.{◌≡◌, ◌⊎◌, ◌≤◌, ◌<◌, ◌+◌, ℕ, suc, ℤ, pos, ◌+ℤ◌, Bool, List}
-use Rattle.std.specs.Prelude.{[], ◌∷◌, ◌++◌, take, length, codes, if◌then◌else◌, Option, Some, None, Result, Ok, Err}
+use Rattle.std.specs.Prelude.{◌≡◌, ◌⊎◌, ◌≤◌, ◌<◌, ℕ, suc, ℤ, pos, ◌+ℤ◌, Bool, List}
+use Rattle.std.specs.Prelude.{[], ◌∷◌, ◌++◌, length, codes, if◌then◌else◌, Option, Some, None, Result, Ok, Err}
 use Rattle.std.specs.Io.KnownBytes.{Appends, Consumes, IsAtEnd}
 use Rattle.cf_io.specs.Bytes.{TookPrefix}
-use Rattle.cf_io.specs.Cut.{CutterState, Stands, told}
-use Rattle.cf_io.specs.Limits.{line_limit, input_limit}
+use Rattle.cf_io.specs.Cut.{CutterState, Stands, told, within}
+use Rattle.cf_io.specs.Limits.{line_limit, IsWithin, IsPast}
 use Rattle.cf_io.specs.Lines.{is_feed, lines, ended}
 use Rattle.cf_io.specs.declared.line.Line.{Line}
 use Rattle.cf_io.specs.declared.line.Line.TheVariants.{Text, TooLong}
@@ -27,7 +27,7 @@ use Rattle.cf_eval.specs.Spelling.{SpellsValues}
 use Rattle.cf_eval.specs.declared.value.Outcome.{Outcome as RunOutcome}
 use Rattle.cf_eval.specs.declared.value.Outcome.TheVariants.{Values, NoSolution, Overflow}
 use Rattle.cf_answer.specs.Ends.{answered_lines}
-use Rattle.cf_answer.specs.Outside.{AreTold}
+use Rattle.cf_answer.specs.Outside.{AreTold, one_past}
 use Rattle.cf_answer.specs.Owed.{Answerer, by_target, by_late, IsReplyBy, AreReplies, OwesRun}
 use Rattle.cf_answer.specs.Picked.{outcome_number}
 use Rattle.cf_answer.specs.Refusals.{CausesOf}
@@ -87,44 +87,46 @@ abbrev pub TookSome : Answerer → List (List ℕ) → Option (List ℕ) → Opt
 TookSome a ls old new = (text : List ℕ) × AreReplies a ls text × TookPrefix old new text
 
 -- the cutter stands for these bytes, and the lines that it told of them are answered
-pub record IsAnswered (a : Answerer) (cutter : CutterState) (bytes : List ℕ) (old new : Option (List ℕ)) : Type 0 where
-  pub stands : Stands line_limit cutter bytes
-  pub took : TookLines a (told line_limit input_limit bytes) old new
+pub record IsAnswered (a : Answerer) (most : Option ℕ) (cutter : CutterState) (bytes : List ℕ) (old new : Option (List ℕ)) : Type 0 where
+  pub stands : Stands line_limit most cutter bytes
+  pub took : TookLines a (told line_limit most bytes) old new
 
 -- a fault of writing, or want of memory
 abbrev pub IsOutFault : Fault → Type 0
 IsOutFault f = (f ≡ fault.Output) ⊎ (f ≡ fault.NoMemory)
 
 -- so many bytes were read, and their lines are answered
-pub record IsReadTo (a : Answerer) (left still_left : Option (List ℕ)) (cutter : CutterState) (old new : Option (List ℕ)) (total : ℕ) : Type 0 where
-  pub bytes : List ℕ
-  pub read : Consumes left still_left bytes
-  pub total_is : total ≡ length bytes
-  pub answered : IsAnswered a cutter bytes old new
+pub record IsReadTo (a : Answerer) (most : Option ℕ) (left still_left : Option (List ℕ)) (cutter : CutterState) (old new : Option (List ℕ)) (total : ℕ) : Type 0
+  where
+    pub bytes : List ℕ
+    pub read : Consumes left still_left bytes
+    pub total_is : total ≡ length bytes
+    pub answered : IsAnswered a most cutter bytes old new
 
 -- what answering an input does, of which `front` was read and `left` is left; the sink held `old` before and holds `new` behind it
-abbrev pub Runs : Answerer → List ℕ → Option (List ℕ) → Option (List ℕ) → Option (List ℕ) → Result (Unit {0}) Fault → Type 0
-Runs a front left old new (Ok done) = IsAtEnd left × (length front ≤ input_limit) × TookReplies a (lines front) old new
-Runs a front left old new (Err fault.InputTooLong) = (input_limit < length front) × TookReplies a (ended (take input_limit front)) old new
-Runs a front left old new (Err fault.Input) = (length front ≤ input_limit) × TookReplies a (ended front) old new
-Runs a front left old new (Err fault.Output) = (rest : List ℕ) × AreTold left rest × TookSome a (answered_lines (front ++ rest)) old new
-Runs a front left old new (Err fault.NoMemory) = (rest : List ℕ) × AreTold left rest × TookSome a (answered_lines (front ++ rest)) old new
-Runs a front left old new (Err f) = ⊥
+abbrev pub Runs : Answerer → Option ℕ → List ℕ → Option (List ℕ) → Option (List ℕ) → Option (List ℕ) → Result (Unit {0}) Fault → Type 0
+Runs a most front left old new (Ok done) = IsAtEnd left × IsWithin most (length front) × TookReplies a (lines front) old new
+Runs a most front left old new (Err fault.InputTooLong) = IsPast most (length front) × TookReplies a (ended (within most front)) old new
+Runs a most front left old new (Err fault.Input) = IsWithin most (length front) × TookReplies a (ended front) old new
+Runs a most front left old new (Err fault.Output) = (rest : List ℕ) × AreTold left rest × TookSome a (answered_lines most (front ++ rest)) old new
+Runs a most front left old new (Err fault.NoMemory) = (rest : List ℕ) × AreTold left rest × TookSome a (answered_lines most (front ++ rest)) old new
+Runs a most front left old new (Err f) = ⊥
 
--- the same of an input that may be told, of which at most one byte more than the limit is read
-pub record RunsOn (a : Answerer) (left still_left old new : Option (List ℕ)) (answer : Result (Unit {0}) Fault) : Type 0 where
+-- the same of an input that may be told, of which at most one byte more than its limit is read
+pub record RunsOn (a : Answerer) (most : Option ℕ) (left still_left old new : Option (List ℕ)) (answer : Result (Unit {0}) Fault) : Type 0 where
   pub front : List ℕ
   pub read : Consumes left still_left front
-  pub most : length front ≤ input_limit + 1
-  pub runs : Runs a front still_left old new answer
+  pub past : IsWithin (one_past most) (length front)
+  pub runs : Runs a most front still_left old new answer
 
 -- what answering an input and then writing `end` does
-pub data RunsThrough (a : Answerer) (end : List ℕ) (left still_left old new : Option (List ℕ)) (answer : Result (Unit {0}) Fault) : Type 0 where
-  cut : (f : Fault) → answer ≡ Err f → RunsOn a left still_left old new (Err f) → RunsThrough a end left still_left old new answer
-  part : (mid : Option (List ℕ)) (f : Fault) → RunsOn a left still_left old mid (Ok tt) → answer ≡ Err f → IsOutFault f → TookPrefix mid new end →
-      RunsThrough a end left still_left old new answer
-  whole : (mid : Option (List ℕ)) → RunsOn a left still_left old mid (Ok tt) → answer ≡ Ok tt → Appends mid new end →
-      RunsThrough a end left still_left old new answer
+pub data RunsThrough (a : Answerer) (most : Option ℕ) (end : List ℕ) (left still_left old new : Option (List ℕ)) (answer : Result (Unit {0}) Fault) : Type 0
+  where
+    cut : (f : Fault) → answer ≡ Err f → RunsOn a most left still_left old new (Err f) → RunsThrough a most end left still_left old new answer
+    part : (mid : Option (List ℕ)) (f : Fault) → RunsOn a most left still_left old mid (Ok tt) → answer ≡ Err f → IsOutFault f → TookPrefix mid new end →
+        RunsThrough a most end left still_left old new answer
+    whole : (mid : Option (List ℕ)) → RunsOn a most left still_left old mid (Ok tt) → answer ≡ Ok tt → Appends mid new end →
+        RunsThrough a most end left still_left old new answer
 
 -- how many bytes stand before the first line feed, or how many there are
 abbrev pub first_size : List ℕ → ℕ

@@ -95,6 +95,7 @@ fault_line (fault.Rejected n i j w) = rejected_line n i j w
 fault_line fault.Input = words_line (codes "cannot read input")
 fault_line fault.Output = words_line (codes "cannot write output")
 fault_line fault.InputTooLong = words_line (codes "input too long")
+fault_line fault.OutputTooLong = words_line (codes "text too long")
 fault_line fault.NoMemory = words_line (codes "no memory")
 
 -- what goes to the sink of errors: the line of a fault, or nothing

@@ -18,7 +18,7 @@ ghost use Rattle.cf_answer.specs.Steps.{IsVerdict};
 use crate::fault::Fault;
 use crate::source::target_of_text;
 use crate::tallies::put_closing;
-use crate::write::write_text;
+use crate::write::write_printed;
 use cf_emit::print;
 use cf_io::Sink;
 use cf_lex::edition_of;
@@ -62,7 +62,7 @@ fn printed(
     Ok(text)
 }
 
-/// Writes the target that a source text is compiled to.
+/// Writes the target that a source text is compiled to, or nothing where that is past its limit.
 pub fn write_target<O: Sink>(
     alloc: Global,
     flags: Flags,
@@ -78,6 +78,7 @@ pub fn write_target<O: Sink>(
     ensures unwritten { IsEarly (the_status_of result) → out.new ≡ out.old }
 {
     let target = compiled(alloc, flags.plain, text, passes)?;
-    let text = printed(alloc, edition_of(text), &target, flags.stats, passes)?;
-    write_text(out, &text)
+    let edition = edition_of(text);
+    let text = printed(alloc, edition, &target, flags.stats, passes)?;
+    write_printed(out, edition, &text)
 }

@@ -6,7 +6,8 @@ ghost use Rattle.cf_answer.specs.Ends.{AnswersOn};
 ghost use Rattle.cf_answer.specs.Outside.{streams};
 ghost use Rattle.cf_answer.specs.Statuses.{status_of as the_status_of, IsEarly};
 ghost use Rattle.cf_target.specs.Spelling.{target_tree};
-ghost use Rattle.cf_answer.specs.Limits.{text_limit};
+ghost use Rattle.cf_lex.specs.Editions.{edition_of as the_edition_of};
+ghost use Rattle.cf_answer.specs.Limits.{of_target, most_of};
 ghost use Rattle.cf_answer.specs.Refusals.{IsRefusedTarget};
 ghost use Rattle.cf_answer.specs.Sources.{IsTypedTarget};
 ghost use Rattle.cf_answer.specs.Steps.{IsVerdict};
@@ -14,6 +15,7 @@ ghost use Rattle.cf_answer.specs.Steps.{IsVerdict};
 use crate::answerer::Answerer;
 use crate::fault::Fault;
 use crate::input::answer_by;
+use crate::limits::longest_target;
 use crate::text::lexed;
 use cf_io::{Sink, Source};
 use cf_lex::edition_of;
@@ -24,12 +26,25 @@ use std::alloc::Global;
 
 // The well-typed target that a text spells, or why the text is refused.
 fn read_target(alloc: Global, text: &[u8]) -> Result<Target, Fault>
-    requires short { length text.now ≤ text_limit }
+    requires place { length text.now < 2 ^ 32 - 1 }
+    ensures { IsVerdict (λ t. IsTypedTarget text.now (target_tree t)) (IsRefusedTarget text.now) result }
+{
+    let edition = edition_of(text);
+    if text.len() > longest_target(edition) {
+        return Err(Fault::TextTooLong);
+    }
+    spelled_target(alloc, edition, text)
+}
+
+// The same of a text that is within the limit of its edition.
+fn spelled_target(alloc: Global, edition: Edition, text: &[u8]) -> Result<Target, Fault>
+    requires edition { edition ≡ the_edition_of text.now }
+    requires short { length text.now ≤ most_of (of_target (the_edition_of text.now)) }
     requires place { length text.now < 2 ^ 32 - 1 }
     ensures { IsVerdict (λ t. IsTypedTarget text.now (target_tree t)) (IsRefusedTarget text.now) result }
 {
     let list = lexed(alloc, Edition::Two, text)?;
-    match target(alloc, edition_of(text), &list) {
+    match target(alloc, edition, &list) {
         Ok(raw) => match check_target(alloc, raw) {
             Ok(target) => Ok(target),
             Err(TargetFault::BadTarget) => Err(Fault::BadTarget),
@@ -47,7 +62,6 @@ pub fn run_target<I: Source, O: Sink>(
     input: &mut I,
     out: &mut O,
 ) -> Result<(), Fault>
-    requires short { length text.now ≤ text_limit }
     requires place { length text.now < 2 ^ 32 - 1 }
     ensures answers { (file : List ℕ) (given : List Told) → AnswersOn (the_exec file) given given (text.now ∷ [])
         (streams (I.seen input.old) (O.seen out.old)) (streams (I.seen input.new) (O.seen out.new)) result }
@@ -55,5 +69,12 @@ pub fn run_target<I: Source, O: Sink>(
     ensures unwritten { IsEarly (the_status_of result) → out.new ≡ out.old }
 {
     let target = read_target(alloc, text)?;
-    answer_by(alloc, &Answerer::Target(target), &[], input, out)
+    answer_by(
+        alloc,
+        edition_of(text),
+        &Answerer::Target(target),
+        &[],
+        input,
+        out,
+    )
 }

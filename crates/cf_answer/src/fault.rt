@@ -49,6 +49,8 @@ pub enum Fault {
     /// A reply was not written.
     Output,
     InputTooLong,
+    /// What was to be written is longer than its readers take.
+    OutputTooLong,
     NoMemory,
 }
 

@@ -3,6 +3,7 @@
 
 mod about;
 mod answerer;
+mod branches;
 mod check;
 mod choose_line;
 mod choose_origin;
@@ -41,7 +42,7 @@ pub use generate::write_workload;
 pub use laws::{
     compiled_is_run, gen_is_accepted, needs_are_checked, proved_is_verified, sums_are_of_quotients,
 };
-pub use limits::{TEXT_LIMIT, longest_text};
+pub use limits::{TEXT_LIMIT, WRITTEN_LIMIT, longest_text, longest_written};
 pub use pre::write_preconditions;
 pub use prove::write_blocks;
 pub use run::run_source;

@@ -1,8 +1,8 @@
 //! Answering the lines that a piece of the input ends.
-ghost use Rattle.std.specs.Prelude.{◌≡◌, ◌≤◌, ◌<◌, ◌+◌, ◌^◌, ◌++◌, List, ℕ, Option, length, map, IfErr, OnOk, OnErr, IsErrOf};
+ghost use Rattle.std.specs.Prelude.{◌++◌, List, ℕ, Option, length, map, IfErr, OnOk, OnErr, IsErrOf};
 ghost use Rattle.cf_io.specs.Cut.{told, line_of};
 ghost use Rattle.cf_io.specs.Lines.{ended, lines as lines_of};
-ghost use Rattle.cf_io.specs.Limits.{line_limit, input_limit};
+ghost use Rattle.cf_io.specs.Limits.{line_limit, IsWithin};
 ghost use Rattle.cf_answer.specs.Outside.{Counts};
 ghost use Rattle.cf_answer.specs.Steps.{answerer_of, TookLines, TookSomeLines, IsAnswered, IsOutFault};
 
@@ -42,13 +42,12 @@ pub fn answer_piece<O: Sink>(
     piece: &[u8],
     out: &mut O,
 ) -> Result<(), Fault>
-    requires { cutter.old.total + length piece.now < 2 ^ 64 }
-    ensures all { OnOk result ((bytes : List ℕ) (first : Option (List ℕ)) → IsAnswered (answerer_of answerer.now) cutter.old bytes first (O.seen out.old).held →
-        IsAnswered (answerer_of answerer.now) cutter.new (bytes ++ piece.now) first (O.seen out.new).held) }
-    ensures total { OnOk result (cutter.new.total ≡ cutter.old.total + length piece.now) }
-    ensures some { OnErr result ((bytes : List ℕ) (first : Option (List ℕ)) →
-        IsAnswered (answerer_of answerer.now) cutter.old bytes first (O.seen out.old).held →
-        TookSomeLines (answerer_of answerer.now) (told line_limit input_limit (bytes ++ piece.now)) first (O.seen out.new).held) }
+    ensures all { OnOk result ((most : Option ℕ) (bytes : List ℕ) (first : Option (List ℕ)) →
+        IsAnswered (answerer_of answerer.now) most cutter.old bytes first (O.seen out.old).held →
+        IsAnswered (answerer_of answerer.now) most cutter.new (bytes ++ piece.now) first (O.seen out.new).held) }
+    ensures some { OnErr result ((most : Option ℕ) (bytes : List ℕ) (first : Option (List ℕ)) →
+        IsAnswered (answerer_of answerer.now) most cutter.old bytes first (O.seen out.old).held →
+        TookSomeLines (answerer_of answerer.now) (told line_limit most (bytes ++ piece.now)) first (O.seen out.new).held) }
     ensures fault { IfErr result IsOutFault }
     ensures count { Counts (IsErrOf result Fault.Output) (O.seen out.old).faults (O.seen out.new).faults }
 {
@@ -65,11 +64,11 @@ pub fn answer_rest<O: Sink>(
     cutter: Cutter,
     out: &mut O,
 ) -> Result<(), Fault>
-    ensures all { OnOk result ((bytes : List ℕ) (first : Option (List ℕ)) → IsAnswered (answerer_of answerer.now) cutter bytes first (O.seen out.old).held →
-        length bytes ≤ input_limit →
+    ensures all { OnOk result ((most : Option ℕ) (bytes : List ℕ) (first : Option (List ℕ)) →
+        IsAnswered (answerer_of answerer.now) most cutter bytes first (O.seen out.old).held → IsWithin most (length bytes) →
         TookLines (answerer_of answerer.now) (map (line_of line_limit) (lines_of bytes)) first (O.seen out.new).held) }
-    ensures some { (bytes : List ℕ) (first : Option (List ℕ)) → IsAnswered (answerer_of answerer.now) cutter bytes first (O.seen out.old).held →
-        length bytes ≤ input_limit →
+    ensures some { (most : Option ℕ) (bytes : List ℕ) (first : Option (List ℕ)) →
+        IsAnswered (answerer_of answerer.now) most cutter bytes first (O.seen out.old).held → IsWithin most (length bytes) →
         TookSomeLines (answerer_of answerer.now) (map (line_of line_limit) (lines_of bytes)) first (O.seen out.new).held }
     ensures fault { IfErr result IsOutFault }
     ensures count { Counts (IsErrOf result Fault.Output) (O.seen out.old).faults (O.seen out.new).faults }

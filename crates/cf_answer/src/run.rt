@@ -14,6 +14,7 @@ use crate::input::answer_by;
 use crate::source::runner;
 use crate::tallies::closing;
 use cf_io::{Sink, Source};
+use cf_lex::edition_of;
 use cf_pass::Pass;
 use cf_words::Flags;
 use std::alloc::Global;
@@ -57,5 +58,5 @@ pub fn run_source<I: Source, O: Sink>(
 {
     let answerer = answerer(alloc, flags.plain, text, passes)?;
     let end = closing(alloc, flags.stats, passes)?;
-    answer_by(alloc, &answerer, &end, input, out)
+    answer_by(alloc, edition_of(text), &answerer, &end, input, out)
 }

@@ -12,19 +12,21 @@ ghost use Rattle.cf_answer.specs.Limits.{text_limit};
 ghost use Rattle.cf_answer.specs.Owed.{IsCompiledBy};
 ghost use Rattle.cf_answer.specs.Refusals.{IsBroken, IsBrokenSource, IsRefusedSource, IsRefusedRun};
 ghost use Rattle.cf_answer.specs.Sources.{SpellsProgram, IsTypedBy, IsTypedSource, IsLoweredSource};
+ghost use Rattle.cf_form.specs.ToldView.{told_choose};
+ghost use Rattle.cf_answer.specs.Verifying.{edition_in, told_in, IsToldProgram};
 ghost use Rattle.cf_answer.specs.Steps.{IsVerdict, IsFormedProgram, IsFormedSource, IsMisspelled, IsRunner, answerer_of};
 
 use crate::answerer::Answerer;
 use crate::fault::Fault;
 use crate::text::lexed;
 use cf_build::build;
-use cf_form::{Formed, form, form_late};
+use cf_form::{ChooseInfo, Formed, form, form_late};
 use cf_lex::edition_of;
 use cf_match::{Lowered, lower};
 use cf_parse::{ParseFault, program};
 use cf_pass::Pass;
 use cf_program::{Late, TypeFault, Typed};
-use cf_tree::{Edition, Program, Target};
+use cf_tree::{Edition, NoMemory, Program, Target};
 use cf_type::{check, check_late, check_late_source, check_source};
 use std::alloc::Global;
 
@@ -127,6 +129,73 @@ pub fn read_lowered(alloc: Global, text: &[u8]) -> Result<Lowered, Fault>
     Ok(lowered)
 }
 
+/// A program with its matches taken apart, and where it is of edition 3, what is told of the chooses of
+/// its source.
+#[derive(Drop)]
+pub struct ToldProgram {
+    pub lowered: Lowered,
+    pub formed: Option<Formed>,
+}
+
+impl ToldProgram {
+    /// The edition of its source.
+    pub fn edition(&self) -> Edition
+        ensures { result ≡ edition_in self.now.formed }
+    {
+        match &self.formed {
+            Some(_) => Edition::Three,
+            None => Edition::Two,
+        }
+    }
+
+    /// What is told of the chooses of its source; nothing of those of language 2.
+    pub fn chooses(&self) -> &[ChooseInfo]
+        ensures { map told_choose result.now ≡ told_in self.now.formed }
+    {
+        match &self.formed {
+            Some(formed) => formed.chooses(),
+            None => &[],
+        }
+    }
+}
+
+/// The program that a source text spells, with its matches taken apart, and what is told of the
+/// chooses of the source; or why the text is refused, whatever its chooses are.
+pub fn read_told(alloc: Global, text: &[u8]) -> Result<ToldProgram, Fault>
+    requires short { length text.now ≤ text_limit }
+    requires place { length text.now < 2 ^ 32 - 1 }
+    ensures { IsVerdict (IsToldProgram text.now) (IsBrokenSource text.now) result }
+{
+    match edition_of(text) {
+        Edition::Two => {
+            let lowered = read_lowered(alloc, text)?;
+            let formed = None;
+            Ok(ToldProgram { lowered, formed })
+        }
+        Edition::Three => told_in_three(alloc, text),
+    }
+}
+
+// The same of edition 3.
+fn told_in_three(alloc: Global, text: &[u8]) -> Result<ToldProgram, Fault>
+    requires short { length text.now ≤ text_limit }
+    requires place { length text.now < 2 ^ 32 - 1 }
+    requires edition { the_edition_of text.now ≡ Three }
+    ensures { IsVerdict (IsToldProgram text.now) (IsBrokenSource text.now) result }
+{
+    let formed = read_formed(alloc, text)?;
+    let typed = formed.typed();
+    // for the proof: the rules of a typed program are told by its methods alone.
+    let _ = typed.main();
+    match lower(alloc, typed) {
+        Ok(lowered) => Ok(ToldProgram {
+            lowered,
+            formed: Some(formed),
+        }),
+        Err(NoMemory) => Err(Fault::NoMemory),
+    }
+}
+
 /// The target that a source text is compiled to by these passes, or why the text is refused.
 pub fn target_of_text(
     alloc: Global,
@@ -210,7 +279,8 @@ fn late_runner(
 // A program that is not linear, as a late one with the forms of language 2.
 fn late(alloc: Global, edition: Edition, program: &Program) -> Result<Late, Fault>
     requires { IsSpelledProgram edition (program_tree program.now) }
-    ensures { IsVerdict (λ x. IsTypedBy edition LateRule (program_tree program.now) (typed_tree x)) (IsBroken edition LateRule (program_tree program.now)) result }
+    ensures { IsVerdict (λ x. IsTypedBy edition LateRule (program_tree program.now) (typed_tree x)) (IsBroken edition LateRule (program_tree program.now))
+        result }
 {
     match edition {
         Edition::Two => checked_late(alloc, program),

@@ -105,6 +105,7 @@ fn fault_status(fault: &Fault) -> Status
         Fault::Input => Status::Input,
         Fault::Output => Status::Output,
         Fault::InputTooLong => Status::InputLong,
+        Fault::OutputTooLong => Status::Limit,
         Fault::NoMemory => Status::NoMemory,
     }
 }

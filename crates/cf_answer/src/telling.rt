@@ -134,6 +134,7 @@ fn fault_line(fault: &Fault) -> Line<'static>
         Fault::Input => Line::Words(b"cannot read input".as_slice()),
         Fault::Output => Line::Words(b"cannot write output".as_slice()),
         Fault::InputTooLong => Line::Words(b"input too long".as_slice()),
+        Fault::OutputTooLong => Line::Words(b"text too long".as_slice()),
         Fault::NoMemory => Line::Words(b"no memory".as_slice()),
     }
 }

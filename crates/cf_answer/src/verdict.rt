@@ -37,8 +37,8 @@ fn put_doubt(text: &mut Vec<u8>, doubt: &Doubt) -> Result<(), NoMemory>
     }
 }
 
-// The name of a level.
-fn name_at(scope: &[Param], level: u32) -> &[u8]
+/// The name of a level.
+pub(crate) fn name_at(scope: &[Param], level: u32) -> &[u8]
     ensures { result.now ≡ get_or (names_of scope.now) level [] }
 {
     match scope.get(level as usize) {

@@ -6,22 +6,29 @@ ghost use Rattle.cf_pass.specs.Passes.{Told};
 ghost use Rattle.cf_words.specs.Commands.{verify as the_verify};
 ghost use Rattle.cf_answer.specs.Certificates.{verified_line};
 ghost use Rattle.cf_answer.specs.Ends.{Does, AnswersOn, IsInOrder};
-ghost use Rattle.cf_answer.specs.Limits.{text_limit};
+ghost use Rattle.cf_answer.specs.Limits.{text_limit, of_target, most_of};
 ghost use Rattle.cf_answer.specs.Statuses.{status_of as the_status_of, IsEarly};
 ghost use Rattle.cf_answer.specs.Outside.{AreTold, outside, streams};
-ghost use Rattle.cf_answer.specs.Sources.{IsLoweredSource};
-ghost use Rattle.cf_answer.specs.Verifying.{IsFetched, IsSourceFault};
+ghost use Rattle.cf_cases.specs.Holding.{EachOf};
+ghost use Rattle.cf_cert.specs.Laws.{IsLinearChoose, AreWithinCases};
+ghost use Rattle.cf_cert.specs.Verifying.{HaveFewSteps};
+ghost use Rattle.cf_form.specs.ToldView.{told_choose};
+ghost use Rattle.cf_steps.specs.Blocks.{block_tree, block_trees};
+ghost use Rattle.cf_answer.specs.Branches.{in_branches, wrong_head as wrong_head_of, IsVerdictIn};
+ghost use Rattle.cf_answer.specs.Verifying.{edition_in, IsFetched, IsSourceFault, IsToldProgram};
 
+use crate::branches::{Coming, is_head};
 use crate::choose_line::put_line;
 use crate::fault::{Fault, StepsFault};
-use crate::limits::longest_text;
-use crate::source::read_lowered;
+use crate::limits::{longest_target, longest_text};
+use crate::source::{ToldProgram, read_told};
 use crate::steps::read_steps;
 use crate::write::write_text;
 use cf_build::numbered;
-use cf_cert::{Verdict, verify};
+use cf_cert::{Verdict, Why, verify};
+use cf_form::ChooseInfo;
 use cf_io::{ReadFault, Shelf, Sink, read_text};
-use cf_match::Lowered;
+use cf_steps::{Block, Blocks};
 use cf_tree::{Choose, NoMemory};
 use std::alloc::Global;
 
@@ -36,23 +43,65 @@ fn verified_lines(alloc: Global, chooses: &[Choose<'_>]) -> Result<Vec<u8>, NoMe
     Ok(text)
 }
 
+// The number of the first choose whose block names another branch.
+fn wrong_head(told: &[ChooseInfo], chooses: &[Choose<'_>], blocks: &[Block]) -> Option<u32>
+    ensures { result ≡ wrong_head_of (in_branches (map told_choose told.now) [] (map choose_tree chooses.now)) (map block_tree blocks.now) }
+{
+    let mut coming = Coming::new(told);
+    let mut rest = blocks;
+    for choose in chooses {
+        let branch = coming.next(choose.number);
+        let Some((block, behind)) = rest.split_first() else {
+            return None;
+        };
+        if !is_head(choose.scope, branch, &block.truths) {
+            return Some(choose.number);
+        }
+        rest = behind;
+    }
+    None
+}
+
+// The verdict on blocks for these chooses in their branches.
+fn verdict(
+    alloc: Global,
+    told: &[ChooseInfo],
+    chooses: &[Choose<'_>],
+    blocks: &Blocks,
+) -> Result<Verdict, NoMemory>
+    requires chooses { EachOf IsLinearChoose (map choose_tree chooses.now) }
+    requires within { EachOf (λ b. AreWithinCases b.cases) (block_trees blocks.now) }
+    requires few { HaveFewSteps (block_trees blocks.now) }
+    ensures { IfOk result (IsVerdictIn (in_branches (map told_choose told.now) [] (map choose_tree chooses.now)) (block_trees blocks.now)) }
+{
+    match wrong_head(told, chooses, &blocks.list) {
+        Some(number) => Ok(Verdict::Rejected {
+            number,
+            case: 0,
+            step: 0,
+            why: Why::Blocks,
+        }),
+        None => verify(alloc, chooses, blocks),
+    }
+}
+
 // Checks the text of a steps file against the chooses of a source, whose matches are taken apart.
 fn verify_text<O: Sink>(
     alloc: Global,
-    lowered: &Lowered,
+    program: &ToldProgram,
     text: &[u8],
     out: &mut O,
 ) -> Result<(), Fault>
-    requires short { length text.now ≤ text_limit }
+    requires short { length text.now ≤ most_of (of_target (edition_in program.now.formed)) }
     requires place { length text.now < 2 ^ 32 - 1 }
     ensures answers { (file steps : List ℕ) (given : List Told) (input : SourceSeen) (source : List ℕ) →
-        IsLoweredSource source lowered.now → AnswersOn (the_verify file steps) given given (source ∷ text.now ∷ [])
+        IsToldProgram source program.now → AnswersOn (the_verify file steps) given given (source ∷ text.now ∷ [])
         (streams input (O.seen out.old)) (streams input (O.seen out.new)) result }
     ensures unwritten { IsEarly (the_status_of result) → out.new ≡ out.old }
 {
-    let blocks = read_steps(alloc, text)?;
-    let chooses = numbered(alloc, lowered.typed())?;
-    let verdict = verify(alloc, &chooses, &blocks)?;
+    let blocks = read_steps(alloc, program.edition(), text)?;
+    let chooses = numbered(alloc, program.lowered.typed())?;
+    let verdict = verdict(alloc, program.chooses(), &chooses, &blocks)?;
     match verdict {
         Verdict::Yes => {
             let lines = verified_lines(alloc, &chooses)?;
@@ -74,14 +123,14 @@ fn verify_text<O: Sink>(
 
 // Reads a source, and answers its program with its matches taken apart, or why the file failed or its
 // text is refused.
-fn fetch_lowered<F: Shelf>(alloc: Global, shelf: &mut F, file: &str) -> Result<Lowered, Fault>
-    ensures fetched { IsFetched file.now (F.seen shelf.old) (F.seen shelf.new) }
-    ensures asked { IfOk result (λ l. (text : List ℕ) × AreTold ((F.seen shelf.old).texts file.now) text × IsLoweredSource text l) }
+fn fetch_program<F: Shelf>(alloc: Global, shelf: &mut F, file: &str) -> Result<ToldProgram, Fault>
+    ensures fetched { IsFetched text_limit file.now (F.seen shelf.old) (F.seen shelf.new) }
+    ensures asked { IfOk result (λ p. (text : List ℕ) × AreTold ((F.seen shelf.old).texts file.now) text × IsToldProgram text p) }
     ensures same { OnOk result ((other : List ℕ) → (F.seen shelf.new).faults other ≡ (F.seen shelf.old).faults other) }
     ensures fault { IfErr result (IsSourceFault file.now (F.seen shelf.old) (F.seen shelf.new)) }
 {
     match read_text(alloc, shelf, file, longest_text()) {
-        Ok(text) => read_lowered(alloc, &text),
+        Ok(text) => read_told(alloc, &text),
         Err(ReadFault::Failed) => Err(Fault::File),
         Err(ReadFault::TooLong) => Err(Fault::TextTooLong),
         Err(ReadFault::NoMemory) => Err(Fault::NoMemory),
@@ -108,9 +157,9 @@ pub fn verify_files<F: Shelf, O: Sink>(
     // The steps file is read only behind a source in which no rule is broken.
     ensures order { IsInOrder (the_verify file.now steps.now) (F.seen shelf.old) (F.seen shelf.new) (the_status_of result) }
 {
-    let lowered = fetch_lowered(alloc, shelf, file)?;
-    match read_text(alloc, shelf, steps, longest_text()) {
-        Ok(text) => verify_text(alloc, &lowered, &text, out),
+    let program = fetch_program(alloc, shelf, file)?;
+    match read_text(alloc, shelf, steps, longest_target(program.edition())) {
+        Ok(text) => verify_text(alloc, &program, &text, out),
         Err(ReadFault::Failed) => Err(Fault::File),
         Err(ReadFault::TooLong) => Err(Fault::Steps(StepsFault::TooLong)),
         Err(ReadFault::NoMemory) => Err(Fault::NoMemory),

@@ -34,7 +34,7 @@ abbrev pub choose : ChooseTree
 choose = record { number = 1; names = []; scope = Int ∷ Int ∷ []; outputs = Int ∷ []; relation = rounding }
 
 abbrev pub block : List (List Act) → ArmTree → BlockTree
-block cases a = record { number = 1; cases = cases; target = record { params = Int ∷ Int ∷ []; results = Int ∷ []; code = code_solve 1 (arms_of (a ∷ [])) } }
+block cases a = record { number = 1; truths = []; cases = cases; target = record { params = Int ∷ Int ∷ []; results = Int ∷ []; code = code_solve 1 (arms_of (a ∷ [])) } }
 
 -- what the steps make
 abbrev made_by : System → Followed → Answer
@@ -183,6 +183,7 @@ second-missing = inl (rounding-certified, refl)
 
 pub beyond : IsVerdict [] (record {
   number = 7;
+  truths = [];
   cases = [];
   target = record {
     params = [];

@@ -2,5 +2,5 @@
 use Rattle.std.proofs.Common.{◌≡◌, refl}
 use Rattle.cf_cert.specs.declared.follow.TheConstants.{MOST_STEPS}
 
-most-steps : MOST_STEPS ≡ 1048576
+most-steps : MOST_STEPS ≡ 67108864
 most-steps = refl

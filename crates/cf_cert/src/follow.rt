@@ -20,7 +20,7 @@ use cf_tree::NoMemory;
 use std::alloc::Global;
 
 /// A steps file has at most so many bytes, and so many steps.
-pub const MOST_STEPS: usize = 1_048_576;
+pub const MOST_STEPS: usize = 67_108_864;
 
 /// The number of the first step of a case that does not apply, and why, or want of memory. Step 0 is the
 /// case's first system, and one more than the last step is its end.

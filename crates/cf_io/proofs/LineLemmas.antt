@@ -6,7 +6,7 @@ use Rattle.std.specs.List.{prefix_len, onto_first, list_any}
 use Rattle.std.proofs.lemmas.List.{take_rest, take_more, take-append-drop, length-append}
 use Rattle.std.proofs.lemmas.List.Recursion.{is_count_by}
 use Rattle.std.proofs.Math.Seq.{take-append_seam}
-use Rattle.cf_io.specs.Cut.{line_of, Keeps, Stands, CutterState}
+use Rattle.cf_io.specs.Cut.{line_of, Keeps, Stands, CutterState, room_behind}
 use Rattle.cf_io.specs.Lines.{is_feed, lines, ended, rest_of, last_of}
 use Rattle.cf_io.specs.Segments.{ended_from, rest_from, is_in_line}
 use Rattle.cf_io.specs.declared.line.Line.{Line}
@@ -176,8 +176,16 @@ pub told_cut : (limit : ℕ) (w rest line more : List ℕ) (l : Line) (before : 
     (before ++ l ∷ []) ++ map (line_of limit) (ended_from [] more) ≡ before ++ map (line_of limit) (ended_from w rest)
 told_cut limit w rest line more l before cut is = rw (append_assoc, cut, is) refl
 
-pub Stands-more : {limit : ℕ} {c : CutterState} {bytes : List ℕ} (piece kept : List ℕ) (size total : ℕ) → Stands limit c bytes →
-    total ≡ c.total + length piece → Keeps limit kept size (rest_from (rest_of bytes) piece) →
-    Stands limit (record { kept = kept; length_so_far = size; total = total }) (bytes ++ piece)
-Stands-more {bytes = bytes} piece kept size total s sum k =
-    record { total = omega (arith, s.total, length-append bytes piece); line = rw (rest_of-append bytes piece) k }
+-- the room that is left behind one more piece
+room-behind : (most : Option ℕ) (before more : ℕ) → room_behind (room_behind most before) more ≡ room_behind most (before + more)
+room-behind None before more = refl
+room-behind (Some most) before more = ap Some (omega arith)
+
+pub Stands-more : {limit : ℕ} {most : Option ℕ} {c : CutterState} {bytes : List ℕ} (piece kept : List ℕ) (size : ℕ) (room : Option ℕ) →
+    Stands limit most c bytes → room ≡ room_behind c.room (length piece) → Keeps limit kept size (rest_from (rest_of bytes) piece) →
+    Stands limit most (record { kept = kept; length_so_far = size; room = room }) (bytes ++ piece)
+Stands-more {most = most} {bytes = bytes} piece kept size room s is k = record {
+  room = is ∙ ap (λ r. room_behind r (length piece)) s.room ∙ room-behind most (length bytes) (length piece) ∙
+      ap (room_behind most) (sym (length-append bytes piece));
+  line = rw (rest_of-append bytes piece) k;
+}

@@ -1,13 +1,13 @@
 //! A cutter of lines.
-ghost use Rattle.std.specs.Prelude.{◌≡◌, ℕ, ◌+◌, ◌-◌, ◌^◌, ◌<◌, ◌≤◌, ◌↔◌, List, [], ◌++◌, length, take, map, IfOk, OnOk, OnErr};
-ghost use Rattle.cf_io.specs.Cut.{line_of, Keeps, Stands, new_lines};
-ghost use Rattle.cf_io.specs.Limits.{line_limit, input_limit};
+ghost use Rattle.std.specs.Prelude.{◌≡◌, ℕ, ◌-◌, ◌^◌, ◌<◌, ◌≤◌, List, [], ◌++◌, length, take, map, Option, IfOk, OnOk, OnErr};
+ghost use Rattle.cf_io.specs.Cut.{line_of, Keeps, Stands, new_lines, room_behind as the_room_behind, within as the_within};
+ghost use Rattle.cf_io.specs.Limits.{line_limit};
 ghost use Rattle.cf_io.specs.Lines.{ended, rest_of, last_of};
 ghost use Rattle.cf_io.specs.Segments.{rest_from};
 
-use crate::limits::{longest_input, longest_line};
-use crate::line::{Fed, Line};
-use crate::segments::{ended_lines, first_ended, last_start};
+use crate::limits::longest_line;
+use crate::line::Line;
+use crate::segments::{first_ended, last_start};
 use cf_tree::{Bytes, NoMemory};
 use std::alloc::Global;
 use std::marker::Model;
@@ -20,50 +20,33 @@ pub struct Cutter {
     alloc: Global,
     kept: Vec<u8>,
     size: u64,
-    total: u64,
+    room: Option<u64>,
 }
 
 impl Model for Cutter {
-    ghost use Rattle.std.specs.Prelude.{◌≤◌};
     ghost use Rattle.cf_io.specs.Cut.{CutterState};
 
     ghost Value = { CutterState };
 
-    ghost view = { λ c. record { kept = c.kept.items; length_so_far = c.size; total = c.total } };
-
-    ghost invariant = { λ c. c.size ≤ c.total };
+    ghost view = { λ c. record { kept = c.kept.items; length_so_far = c.size; room = c.room } };
 }
 
 impl Cutter {
-    /// A Cutter that was fed nothing.
-    pub fn new(alloc: Global) -> Cutter
-        ensures { Stands line_limit result [] }
+    /// A Cutter that was fed nothing. It tells the lines that end within so many first bytes of the
+    /// input, or all where there is no limit.
+    pub fn new(alloc: Global, most: Option<u64>) -> Cutter
+        ensures { Stands line_limit most result [] }
     {
         Cutter {
             alloc,
             kept: Vec::new(alloc),
             size: 0,
-            total: 0,
+            room: most,
         }
     }
 
-    /// Takes the next piece, and adds the lines that end within it and within the limit of the input.
-    ///
-    /// Where memory is wanted, the Cutter and the lines are as before.
-    pub fn feed(&mut self, piece: &[u8], lines: &mut Vec<Line>) -> Result<Fed, NoMemory>
-        requires { self.old.total + length piece.now < 2 ^ 64 }
-        ensures stands { OnOk result ((bytes : List ℕ) → Stands line_limit self.old bytes → Stands line_limit self.new (bytes ++ piece.now)) }
-        ensures lines { OnOk result ((bytes : List ℕ) → Stands line_limit self.old bytes →
-            lines.new.items ≡ lines.old.items ++ new_lines line_limit input_limit bytes piece.now) }
-        ensures total { OnOk result (self.new.total ≡ self.old.total + length piece.now) }
-        ensures full { IfOk result (λ fed. (fed ≡ Fed.Full) ↔ (input_limit < self.old.total + length piece.now)) }
-        ensures err { OnErr result ((self.new ≡ self.old) × (lines.new.items ≡ lines.old.items)) }
-    {
-        self.feed_within(piece, lines, longest_line(), longest_input() as u64)
-    }
-
-    /// Takes the next piece as `feed` does, and adds the first line only of those that `feed` adds. The
-    /// others are those that end in the bytes which are lent.
+    /// Takes the next piece. Of the lines that end within it and within the limit of the input it adds
+    /// the first. The others are those that end in the bytes which are lent.
     ///
     /// Where memory is wanted, the Cutter and the lines are as before.
     pub fn feed_first<'p>(
@@ -71,76 +54,33 @@ impl Cutter {
         piece: &'p [u8],
         lines: &mut Vec<Line>,
     ) -> Result<&'p [u8], NoMemory>
-        requires { self.old.total + length piece.now < 2 ^ 64 }
-        ensures stands { OnOk result ((bytes : List ℕ) → Stands line_limit self.old bytes → Stands line_limit self.new (bytes ++ piece.now)) }
-        ensures lines { IfOk result (λ rest. (bytes : List ℕ) → Stands line_limit self.old bytes →
-            lines.new.items ++ map (line_of line_limit) (ended rest.now) ≡ lines.old.items ++ new_lines line_limit input_limit bytes piece.now) }
-        ensures total { OnOk result (self.new.total ≡ self.old.total + length piece.now) }
+        ensures stands { OnOk result ((most : Option ℕ) (bytes : List ℕ) → Stands line_limit most self.old bytes →
+            Stands line_limit most self.new (bytes ++ piece.now)) }
+        ensures lines { IfOk result (λ rest. (most : Option ℕ) (bytes : List ℕ) → Stands line_limit most self.old bytes →
+            lines.new.items ++ map (line_of line_limit) (ended rest.now) ≡ lines.old.items ++ new_lines line_limit most bytes piece.now) }
         ensures err { OnErr result ((self.new ≡ self.old) × (lines.new.items ≡ lines.old.items)) }
     {
-        self.feed_first_within(piece, lines, longest_line(), longest_input() as u64)
+        self.feed_within(piece, lines, longest_line())
     }
 
-    fn feed_within(
-        &mut self,
-        piece: &[u8],
-        lines: &mut Vec<Line>,
-        limit: usize,
-        input: u64,
-    ) -> Result<Fed, NoMemory>
-        requires { self.old.total + length piece.now < 2 ^ 64 }
-        ensures stands { OnOk result ((bytes : List ℕ) → Stands limit self.old bytes → Stands limit self.new (bytes ++ piece.now)) }
-        ensures lines { OnOk result ((bytes : List ℕ) → Stands limit self.old bytes →
-            lines.new.items ≡ lines.old.items ++ new_lines limit input bytes piece.now) }
-        ensures total { OnOk result (self.new.total ≡ self.old.total + length piece.now) }
-        ensures full { IfOk result (λ fed. (fed ≡ Fed.Full) ↔ (input < self.old.total + length piece.now)) }
-        ensures err { OnErr result ((self.new ≡ self.old) × (lines.new.items ≡ lines.old.items)) }
-    {
-        let mut more = self.lines_of(piece, limit, input)?;
-        lines.reserve(more.len())?;
-        let fed = self.go_on(piece, limit, input)?;
-        lines.append(&mut more).unwrap();
-        Ok(fed)
-    }
-
-    fn feed_first_within<'p>(
+    fn feed_within<'p>(
         &mut self,
         piece: &'p [u8],
         lines: &mut Vec<Line>,
         limit: usize,
-        input: u64,
     ) -> Result<&'p [u8], NoMemory>
-        requires { self.old.total + length piece.now < 2 ^ 64 }
-        ensures stands { OnOk result ((bytes : List ℕ) → Stands limit self.old bytes → Stands limit self.new (bytes ++ piece.now)) }
-        ensures lines { IfOk result (λ rest. (bytes : List ℕ) → Stands limit self.old bytes →
-            lines.new.items ++ map (line_of limit) (ended rest.now) ≡ lines.old.items ++ new_lines limit input bytes piece.now) }
-        ensures total { OnOk result (self.new.total ≡ self.old.total + length piece.now) }
+        requires { limit < 2 ^ 31 }
+        ensures stands { OnOk result ((most : Option ℕ) (bytes : List ℕ) → Stands limit most self.old bytes → Stands limit most self.new (bytes ++ piece.now)) }
+        ensures lines { IfOk result (λ rest. (most : Option ℕ) (bytes : List ℕ) → Stands limit most self.old bytes →
+            lines.new.items ++ map (line_of limit) (ended rest.now) ≡ lines.old.items ++ new_lines limit most bytes piece.now) }
         ensures err { OnErr result ((self.new ≡ self.old) × (lines.new.items ≡ lines.old.items)) }
     {
         let mut first = Vec::new(self.alloc);
-        let rest = self.first_of(piece, &mut first, limit, input)?;
+        let rest = self.first_of(piece, &mut first, limit)?;
         lines.reserve(first.len())?;
-        self.go_on(piece, limit, input)?;
+        self.go_on(piece, limit)?;
         lines.append(&mut first).unwrap();
         Ok(rest)
-    }
-
-    // The bytes of the piece within the limit of the input.
-    fn within<'p>(&self, piece: &'p [u8], input: u64) -> &'p [u8]
-        ensures { result.now ≡ take (input - self.now.total) piece.now }
-    {
-        let room = input.saturating_sub(self.total).min(piece.len() as u64);
-        &piece[..room as usize]
-    }
-
-    // The lines that end within the piece and within the limit of the input.
-    fn lines_of(&self, piece: &[u8], limit: usize, input: u64) -> Result<Vec<Line>, NoMemory>
-        requires { self.now.total + length piece.now < 2 ^ 64 }
-        ensures { IfOk result (λ v. (bytes : List ℕ) → Stands limit self.now bytes → v.items ≡ new_lines limit input bytes piece.now) }
-    {
-        let within = self.within(piece, input);
-        let found = ended_lines(self.alloc, &self.kept, self.size, within, limit)?;
-        Ok(found)
     }
 
     // Adds the first of these lines. The others are those that end in the bytes which are lent.
@@ -149,34 +89,30 @@ impl Cutter {
         piece: &'p [u8],
         lines: &mut Vec<Line>,
         limit: usize,
-        input: u64,
     ) -> Result<&'p [u8], NoMemory>
-        requires { self.now.total + length piece.now < 2 ^ 64 }
-        ensures { IfOk result (λ rest. (bytes : List ℕ) → Stands limit self.now bytes →
-            lines.new.items ++ map (line_of limit) (ended rest.now) ≡ lines.old.items ++ new_lines limit input bytes piece.now) }
+        requires { limit < 2 ^ 31 }
+        ensures { IfOk result (λ rest. (most : Option ℕ) (bytes : List ℕ) → Stands limit most self.now bytes →
+            lines.new.items ++ map (line_of limit) (ended rest.now) ≡ lines.old.items ++ new_lines limit most bytes piece.now) }
     {
-        let within = self.within(piece, input);
-        let rest = first_ended(self.alloc, &self.kept, self.size, within, limit, lines)?;
+        let front = within(self.room, piece);
+        let rest = first_ended(self.alloc, &self.kept, self.size, front, limit, lines)?;
         Ok(rest)
     }
 
-    fn go_on(&mut self, piece: &[u8], limit: usize, input: u64) -> Result<Fed, NoMemory>
-        requires { self.old.total + length piece.now < 2 ^ 64 }
-        ensures stands { OnOk result ((bytes : List ℕ) → Stands limit self.old bytes → Stands limit self.new (bytes ++ piece.now)) }
-        ensures total { OnOk result (self.new.total ≡ self.old.total + length piece.now) }
-        ensures full { IfOk result (λ fed. (fed ≡ Fed.Full) ↔ (input < self.old.total + length piece.now)) }
+    fn go_on(&mut self, piece: &[u8], limit: usize) -> Result<(), NoMemory>
+        ensures stands { OnOk result ((most : Option ℕ) (bytes : List ℕ) → Stands limit most self.old bytes → Stands limit most self.new (bytes ++ piece.now)) }
         ensures err { OnErr result (self.new ≡ self.old) }
     {
         self.size = next_rest(self.alloc, &mut self.kept, self.size, piece, limit)?;
-        self.total += piece.len() as u64;
-        Ok(fed_of(self.total, input))
+        self.room = room_behind(self.room, piece.len());
+        Ok(())
     }
 
     /// Adds the last line, where bytes stand after the last line feed.
     ///
     /// Where memory is wanted, the lines are as before.
     pub fn finish(self, lines: &mut Vec<Line>) -> Result<(), NoMemory>
-        ensures ok { OnOk result ((bytes : List ℕ) → Stands line_limit self bytes →
+        ensures ok { OnOk result ((most : Option ℕ) (bytes : List ℕ) → Stands line_limit most self bytes →
             lines.new.items ≡ lines.old.items ++ map (line_of line_limit) (last_of (rest_of bytes))) }
         ensures err { OnErr result (lines.new.items ≡ lines.old.items) }
     {
@@ -185,7 +121,9 @@ impl Cutter {
 }
 
 fn finish_within(cutter: Cutter, lines: &mut Vec<Line>, limit: usize) -> Result<(), NoMemory>
-    ensures ok { OnOk result ((bytes : List ℕ) → Stands limit cutter bytes → lines.new.items ≡ lines.old.items ++ map (line_of limit) (last_of (rest_of bytes))) }
+    requires { limit < 2 ^ 31 }
+    ensures ok { OnOk result ((most : Option ℕ) (bytes : List ℕ) → Stands limit most cutter bytes →
+        lines.new.items ≡ lines.old.items ++ map (line_of limit) (last_of (rest_of bytes))) }
     ensures err { OnErr result (lines.new.items ≡ lines.old.items) }
 {
     if cutter.size == 0 {
@@ -198,6 +136,33 @@ fn finish_within(cutter: Cutter, lines: &mut Vec<Line>, limit: usize) -> Result<
     };
     lines.push(line)?;
     Ok(())
+}
+
+// The bytes of the piece for which there is room.
+fn within<'p>(room: Option<u64>, piece: &'p [u8]) -> &'p [u8]
+    ensures { result.now ≡ the_within room piece.now }
+{
+    match room {
+        None => piece,
+        Some(room) => first_bytes(room, piece),
+    }
+}
+
+fn first_bytes<'p>(room: u64, piece: &'p [u8]) -> &'p [u8]
+    ensures { result.now ≡ take room piece.now }
+{
+    let count = room.min(piece.len() as u64);
+    &piece[..count as usize]
+}
+
+// The room that is left behind so many bytes.
+fn room_behind(room: Option<u64>, count: usize) -> Option<u64>
+    ensures { result ≡ the_room_behind room count }
+{
+    match room {
+        None => None,
+        Some(room) => Some(room.saturating_sub(count as u64)),
+    }
 }
 
 // Keeps the bytes that follow those of a line, as far as the limit goes.
@@ -218,28 +183,28 @@ fn next_rest(
     piece: &[u8],
     limit: usize,
 ) -> Result<u64, NoMemory>
-    requires { size + length piece.now < 2 ^ 64 }
     ensures ok { IfOk result (λ n. (w : List ℕ) → Keeps limit kept.old.items size w → Keeps limit kept.new.items n (rest_from w piece.now)) }
-    ensures size { IfOk result (λ n. n ≤ size + length piece.now) }
     ensures err { OnErr result (kept.new.items ≡ kept.old.items) }
 {
     match last_start(piece) {
         None => {
             extend(kept, piece, limit)?;
-            Ok(size + piece.len() as u64)
+            Ok(size.saturating_add(piece.len() as u64))
         }
         Some(at) => {
             let mut front = Vec::new(alloc);
             extend(&mut front, &piece[at..], limit)?;
             *kept = front;
-            Ok((piece.len() - at) as u64)
+            Ok(len_behind(piece, at))
         }
     }
 }
 
-// Whether more bytes than the limit were fed.
-fn fed_of(total: u64, input: u64) -> Fed
-    ensures { (result ≡ Fed.Full) ↔ (input < total) }
+// How many bytes stand from that place on.
+fn len_behind(piece: &[u8], at: usize) -> u64
+    requires { at ≤ length piece.now }
+    ensures size { result ≡ length piece.now - at }
+    ensures small { result < 2 ^ 64 }
 {
-    if total > input { Fed::Full } else { Fed::More }
+    (piece.len() - at) as u64
 }

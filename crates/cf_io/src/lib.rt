@@ -22,7 +22,7 @@ pub use cutter::Cutter;
 pub use edge::{FileShelf, ReadSource, WriteSink};
 pub use faults::{Failed, FetchFault, ReadFault};
 pub use limits::{INPUT_LIMIT, LINE_LIMIT, longest_input, longest_line};
-pub use line::{Fed, Line};
+pub use line::Line;
 pub use mem_shelf::MemShelf;
 pub use mem_sink::MemSink;
 pub use mem_source::MemSource;

@@ -1,4 +1,4 @@
-//! A line of the input, and what feeding a piece of it did.
+//! A line of the input.
 use cf_tree::Bytes;
 
 /// A line without its end.
@@ -7,12 +7,4 @@ pub enum Line {
     Text(Bytes),
     /// It has more bytes than the limit of a line.
     TooLong,
-}
-
-/// Whether all bytes that were fed are within the limit of the input.
-#[derive(Clone, Copy, Debug, PartialEq, Eq)]
-pub enum Fed {
-    More,
-    /// More bytes were fed than the limit.
-    Full,
 }

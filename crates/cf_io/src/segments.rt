@@ -1,5 +1,5 @@
 //! The lines within one piece.
-ghost use Rattle.std.specs.Prelude.{◌≡◌, ℕ, ◌+◌, ◌^◌, ◌<◌, ◌≤◌, List, [], ◌∷◌, ◌++◌, length, take, map, IfOk, OnOk, IfSome, MatchOption, drop};
+ghost use Rattle.std.specs.Prelude.{◌≡◌, ℕ, ◌+◌, ◌^◌, ◌<◌, ◌≤◌, List, [], ◌∷◌, ◌++◌, length, map, IfOk, IfSome, MatchOption, drop};
 ghost use Rattle.std.specs.List.{prefix_len};
 ghost use Rattle.cf_io.specs.Segments.{is_in_line, ended_from, rest_from};
 ghost use Rattle.cf_io.specs.Cut.{line_of, Keeps};
@@ -52,34 +52,16 @@ fn line_text(
     segment: &[u8],
     limit: usize,
 ) -> Result<Line, NoMemory>
-    requires { size + length segment.now < 2 ^ 64 }
+    requires { limit < 2 ^ 31 }
     ensures { IfOk result (λ l. (w : List ℕ) → Keeps limit head.now size w → l ≡ line_of limit (w ++ segment.now)) }
 {
-    if size + segment.len() as u64 <= limit as u64 {
+    if size.saturating_add(segment.len() as u64) <= limit as u64 {
         let mut bytes = head.to_vec(alloc)?;
         bytes.extend_from_slice(segment)?;
         Ok(Line::Text(Bytes { bytes }))
     } else {
         Ok(Line::TooLong)
     }
-}
-
-// Adds the lines that end within the piece.
-fn whole_lines(
-    alloc: Global,
-    piece: &[u8],
-    limit: usize,
-    out: &mut Vec<Line>,
-) -> Result<(), NoMemory>
-    requires { length piece.now < 2 ^ 64 }
-    ensures { OnOk result (out.new.items ≡ out.old.items ++ map (line_of limit) (ended_from [] piece.now)) }
-{
-    let mut rest = piece;
-    'lines: while let Some((line, more)) = split_line(rest) {
-        out.push(line_text(alloc, &[], 0, line, limit)?)?;
-        rest = more;
-    }
-    Ok(())
 }
 
 /// Adds the first line that ends within the piece, where it goes on from one of `size` bytes. The
@@ -92,10 +74,9 @@ pub(crate) fn first_ended<'p>(
     limit: usize,
     out: &mut Vec<Line>,
 ) -> Result<&'p [u8], NoMemory>
-    requires { size + length piece.now < 2 ^ 64 }
-    ensures lines { IfOk result (λ rest. (w : List ℕ) → Keeps limit head.now size w →
+    requires { limit < 2 ^ 31 }
+    ensures { IfOk result (λ rest. (w : List ℕ) → Keeps limit head.now size w →
         out.new.items ++ map (line_of limit) (ended_from [] rest.now) ≡ out.old.items ++ map (line_of limit) (ended_from w piece.now)) }
-    ensures less { IfOk result (λ rest. length rest.now ≤ length piece.now) }
 {
     match split_line(piece) {
         Some((line, rest)) => {
@@ -104,23 +85,6 @@ pub(crate) fn first_ended<'p>(
         }
         None => Ok(&[]),
     }
-}
-
-/// The lines that end within the piece, where the first goes on from a line of `size` bytes.
-pub(crate) fn ended_lines(
-    alloc: Global,
-    head: &[u8],
-    size: u64,
-    piece: &[u8],
-    limit: usize,
-) -> Result<Vec<Line>, NoMemory>
-    requires { size + length piece.now < 2 ^ 64 }
-    ensures { IfOk result (λ v. (w : List ℕ) → Keeps limit head.now size w → v.items ≡ map (line_of limit) (ended_from w piece.now)) }
-{
-    let mut out = Vec::new(alloc);
-    let rest = first_ended(alloc, head, size, piece, limit, &mut out)?;
-    whole_lines(alloc, rest, limit, &mut out)?;
-    Ok(out)
 }
 
 /// Where the last line of the piece begins, if a line ends in it.

@@ -17,7 +17,8 @@ use Rattle.cf_choose.specs.Eliminations.{first_of}
 use Rattle.cf_choose.specs.Laws.{IsUnrefused}
 use Rattle.cf_choose.specs.Solved.{IsOf}
 use Rattle.cf_steps.specs.declared.block.Block.{Block}
-use Rattle.cf_steps.specs.Blocks.{BlockTree, block_tree}
+use Rattle.cf_steps.specs.declared.block.NamedTruth.{NamedTruth}
+use Rattle.cf_steps.specs.Blocks.{BlockTree, block_tree, in_branch}
 use Rattle.cf_steps.specs.Printed.{block_text}
 use Rattle.cf_steps.specs.Spelled.{AreSpelledCases}
 use Rattle.cf_cert.specs.Certifying.{layout, Certifies}
@@ -67,19 +68,31 @@ module _ (q : ChooseTree) (s : SolvedParts) (h : IsOf q.scope q.outputs q.relati
       ap (map first_of) e ∙ rw (← h.same_scope, ← h.same_outputs, ← h.same_relation) k.firsts_are
 
 -- ---- the block
-pub is_proved : (q : ChooseTree) (cases : Vec (Vec Act Global) Global) (t : RawTarget) (text : List ℕ) → IsUnrefused q.scope q.outputs q.relation →
+-- what a block certifies does not depend on the branch that it names
+in_branch_certifies : (q : ChooseTree) (truths : List NamedTruth) (b : BlockTree) → Certifies q b → Certifies q (in_branch truths b)
+in_branch_certifies q truths b c = record {
+  number = c.number;
+  counts = c.counts;
+  written = c.written;
+  answers = c.answers;
+  cases = c.cases;
+  target = c.target;
+}
+
+pub is_proved : (q : ChooseTree) (truths : Vec NamedTruth Global) (cases : Vec (Vec Act Global) Global) (t : RawTarget) (text : List ℕ) → IsUnrefused q.scope q.outputs q.relation →
     IsColumn q.number → AreTracesOf (first_systems (layout q) q.relation) (map (λ c. c.items) cases.items) → IsTargetOf q t →
-    text ≡ block_text q.number (map (λ c. c.items) cases.items) t → IsProved q text
-is_proved q cases t text u n h k e =
-    let b : Block = record { number = q.number; cases = cases; target = t } in
-    let is : block_tree b ≡ traced_block q = rw (h.are, k.is) refl in
-    let c : Certifies q (block_tree b) = subst (λ (x : BlockTree). Certifies q x) (sym is) (traced_certifies q u) in
+    text ≡ block_text q.number truths.items (map (λ c. c.items) cases.items) t → IsProved q truths.items text
+is_proved q truths cases t text u n h k e =
+    let b : Block = record { number = q.number; truths = truths; cases = cases; target = t } in
+    let is : block_tree b ≡ in_branch truths.items (traced_block q) = rw (h.are, k.is) refl in
+    let c : Certifies q (block_tree b) = subst (λ (x : BlockTree). Certifies q x) (sym is)
+    (in_branch_certifies q truths.items (traced_block q) (traced_certifies q u)) in
     record {
       within = u.within;
       block = b;
       is = is;
       spelled = record { number = n; cases = h.spelled; target = k.spelled };
-      printed = e ∙ sym (append-nil (block_text q.number (map (λ c. c.items) cases.items) t));
+      printed = e ∙ sym (append-nil (block_text q.number truths.items (map (λ c. c.items) cases.items) t));
       certifies = c;
       means = certified_means q (block_tree b) (record { typed = u.typed; linear = u.linear; are_outputs = u.are_outputs })
           (spelled_within (map (λ c. c.items) cases.items) h.spelled) c;

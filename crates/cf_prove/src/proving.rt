@@ -11,45 +11,50 @@ ghost use Rattle.cf_prove.specs.Proving.{IsProved, ProveAnswer};
 
 use cf_choose::{ChooseFault, Solved, solve};
 use cf_elim::SolvedCase;
-use cf_steps::{Act, print_block};
+use cf_steps::{Act, Head, print_block};
 use cf_tree::{Choose, NoMemory, RawTarget, Target, bases};
 use std::alloc::Global;
 
-/// The printed block of a choose with at least one output, whose number is at least 1: the steps of the
-/// elimination of each case, and the target with the choose's scope as its parameters and its outputs as
-/// its results.
+/// The printed block of a choose in a branch, where it has at least one output, and its number is at
+/// least 1: the truth variables of the branch, the steps of the elimination of each case, and the target
+/// with the choose's scope as its parameters and its outputs as its results.
 ///
 /// # Errors
 /// `Refused` exactly where the relation passes a limit, with the first one, as `solve` has it, and
 /// `NoMemory` where memory ran out.
-pub fn prove(alloc: Global, choose: &Choose<'_>) -> Result<Vec<u8>, ChooseFault>
+pub fn prove(alloc: Global, choose: &Choose<'_>, head: &Head) -> Result<Vec<u8>, ChooseFault>
     requires choose { IsLinearChoose (choose_tree choose.now) }
     requires some { 1 ≤ length choose.now.outputs.now }
     requires numbered { 1 ≤ choose.now.number }
-    ensures { ProveAnswer (choose_tree choose.now) result }
+    ensures { ProveAnswer (choose_tree choose.now) head.now.truths.items result }
 {
     let scope = bases(alloc, choose.scope)?;
     let solved = match solve(alloc, &scope, choose.outputs, choose.rel) {
         Ok(solved) => solved,
         Err(fault) => return Err(fault),
     };
-    match proved(alloc, choose, solved) {
+    match proved(alloc, choose, head, solved) {
         Ok(text) => Ok(text),
         Err(_) => Err(ChooseFault::NoMemory),
     }
 }
 
-// The printed block of a choose that is solved.
-fn proved(alloc: Global, choose: &Choose<'_>, solved: Solved) -> Result<Vec<u8>, NoMemory>
+// The printed block of a choose that is solved, in a branch.
+fn proved(
+    alloc: Global,
+    choose: &Choose<'_>,
+    head: &Head,
+    solved: Solved,
+) -> Result<Vec<u8>, NoMemory>
     requires some { 1 ≤ length choose.now.outputs.now }
     requires numbered { 1 ≤ choose.now.number }
     requires solved { IsOf (bases_of choose.now.scope.now) choose.now.outputs.now (rel_tree choose.now.rel.now) solved }
-    ensures { IfOk result (λ v. IsProved (choose_tree choose.now) v.items) }
+    ensures { IfOk result (λ v. IsProved (choose_tree choose.now) head.now.truths.items v.items) }
 {
     let number = of_32_bits(choose.number);
     let cases = steps(alloc, solved.cases())?;
     let target = target(alloc, choose, solved)?;
-    print_block(alloc, number, &cases, &target)
+    print_block(alloc, number, &head.truths, &cases, &target)
 }
 
 // for the proof: the number of a lent choose has 32 bits.

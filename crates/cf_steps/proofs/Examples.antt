@@ -1,8 +1,10 @@
 -- Worked examples of steps files: each production, and what is refused beside it.
-use Rattle.std.proofs.Common.{◌≡◌, ℕ, ◌-◌, ◌^◌, true, false, List, [], ◌∷◌, map, Ok, Err, refl, codes, arith}
+use Rattle.std.proofs.Common.{◌≡◌, ℕ, ◌-◌, ◌^◌, Bool, true, false, List, [], ◌∷◌, map, Ok, Err, refl, codes, arith}
 use Rattle.std.specs.Prelude.{pos, negsuc}
 use Rattle.cf_lex.specs.declared.token.Token.{Token}
 use Rattle.cf_tree.specs.declared.base.Base.TheVariants.{Int}
+use Rattle.cf_tree.specs.declared.base.Edition.{Edition}
+use Rattle.cf_tree.specs.declared.base.Edition.TheVariants.{Two, Three}
 use Rattle.cf_tree.specs.CodeTree.{code_lit}
 use Rattle.cf_tree.specs.DefView.{TargetTree}
 use Rattle.cf_reader.specs.Readers.{at, pure, refuse, must, bind, first, deep, at_end, more_of, others_of, several_of, one_or_tuple}
@@ -13,10 +15,12 @@ use Rattle.cf_target.specs.Reading.{step, read}
 use Rattle.cf_target.specs.Targets.{bases_of, main_of, headless_of, part_of}
 use Rattle.cf_elim.specs.declared.act.Act.{Act}
 use Rattle.cf_elim.specs.declared.act.Act.TheVariants.{Clean, Mix, Last, Search, Drop}
+use Rattle.cf_steps.specs.declared.block.NamedTruth.{NamedTruth}
 use Rattle.cf_steps.specs.Blocks.{BlockTree}
 use Rattle.cf_elim.specs.Acts.{IsSpelledAct}
+use Rattle.cf_steps.specs.Spelled.{IsSpelledTruth, IsSpelledHead}
 use Rattle.cf_steps.specs.Spelling.{AreBlocks}
-use Rattle.cf_steps.specs.Reading.{factor_of, mix_of, search_of, act_of, ended_act, acts_of, all_acts, case_of, block_of, blocks_of}
+use Rattle.cf_steps.specs.Reading.{factor_of, mix_of, search_of, act_of, ended_act, acts_of, all_acts, case_of, truth_of, truths_of, no_truths, head_of, block_of, blocks_of}
 use Rattle.cf_steps.specs.Reading.{all_blocks}
 use Rattle.cf_steps.proofs.Found.{found_law}
 
@@ -71,7 +75,7 @@ one_tokens rest = word (codes "main") ∷ sign (codes "(") ∷ sign (codes ")") 
 
 -- no case, and two cases of which one has no step; the second target has a header
 abbrev two : List BlockTree
-two = record { number = 0; cases = []; target = one } ∷ record { number = 2; cases = (Clean ∷ Drop 3 ∷ []) ∷ [] ∷ []; target = one } ∷ []
+two = record { number = 0; truths = []; cases = []; target = one } ∷ record { number = 2; truths = []; cases = (Clean ∷ Drop 3 ∷ []) ∷ [] ∷ []; target = one } ∷ []
 
 abbrev two_tokens : List Token
 two_tokens =
@@ -81,13 +85,14 @@ two_tokens =
     word (codes "case") ∷ sign (codes "{") ∷ sign (codes "}") ∷
     sign (codes "}") ∷ word (codes "comfusy") ∷ literal 2 ∷ one_tokens [])
 
-two-blocks : AreBlocks two two_tokens
-unfolding at pure refuse must bind first deep at_end more_of others_of several_of one_or_tuple results_of last_level with_digit bases_of main_of headless_of part_of step read factor_of mix_of search_of act_of ended_act acts_of all_acts case_of block_of blocks_of all_blocks
-two-blocks = found_law two_tokens two [] refl
+two-blocks : (edition : Edition) → AreBlocks edition two two_tokens
+unfolding at pure refuse must bind first deep at_end more_of others_of several_of one_or_tuple results_of last_level with_digit bases_of main_of headless_of part_of step read factor_of mix_of search_of act_of ended_act acts_of all_acts case_of truth_of truths_of no_truths head_of block_of blocks_of all_blocks
+two-blocks Two = found_law Two two_tokens two [] refl
+two-blocks Three = found_law Three two_tokens two [] refl
 
-no-blocks : AreBlocks [] []
+no-blocks : (edition : Edition) → AreBlocks edition [] []
 unfolding at_end blocks_of all_blocks
-no-blocks = found_law [] [] [] refl
+no-blocks edition = found_law edition [] [] [] refl
 
 -- a fault by how many tokens are left: no semicolon, no target, another word behind a target, a number that is none of 32 bits
 abbrev broken : List (ℕ × List Token)
@@ -101,9 +106,60 @@ broken = (
     (3, word (codes "choose") ∷ literal 4294967296 ∷ sign (codes "{") ∷ sign (codes "}") ∷ []) ∷
     []
 
-broken-read : map (λ x. all_blocks 500 x.1) broken ≡ map (λ x. Err x.0) broken
-unfolding at pure refuse must bind first deep at_end more_of others_of several_of one_or_tuple results_of last_level with_digit bases_of main_of headless_of part_of step read factor_of mix_of search_of act_of ended_act acts_of all_acts case_of block_of blocks_of all_blocks
+broken-read : map (λ x. all_blocks Two 500 x.1) broken ≡ map (λ x. Err x.0) broken
+unfolding at pure refuse must bind first deep at_end more_of others_of several_of one_or_tuple results_of last_level with_digit bases_of main_of headless_of part_of step read factor_of mix_of search_of act_of ended_act acts_of all_acts case_of truth_of truths_of no_truths head_of block_of blocks_of all_blocks
 broken-read = refl
+
+-- ---- heads
+abbrev named : List ℕ → Bool → NamedTruth
+named x b = record { name = x; value = b }
+
+-- behind the number, up to the opening brace: no truth variable, one, and two
+abbrev heads : List (List NamedTruth × List Token)
+heads =
+    ([], sign (codes "{") ∷ []) ∷
+    (named (codes "p") true ∷ [], sign (codes "(") ∷ word (codes "p") ∷ sign (codes "=") ∷ word (codes "true") ∷ sign (codes ")") ∷ sign (codes "{") ∷ []) ∷ (
+      named (codes "p") true ∷ named (codes "mod") false ∷ [],
+      sign (codes "(") ∷ word (codes "p") ∷ sign (codes "=") ∷ word (codes "true") ∷ sign (codes ",") ∷
+          word (codes "mod") ∷ sign (codes "=") ∷ word (codes "false") ∷ sign (codes ")") ∷ sign (codes "{") ∷ [],
+    ) ∷
+    []
+
+heads-read : map (λ x. head_of Three x.1) heads ≡ map (λ x. Ok (x.0, [])) heads
+unfolding at pure refuse must bind first more_of others_of several_of truth_of truths_of no_truths head_of
+heads-read = refl
+
+-- tokens that are no head, by how many are left from the fault on: an empty list, a reserved word, no value, no brace
+abbrev no_heads : List (ℕ × List Token)
+no_heads =
+    (2, sign (codes "(") ∷ sign (codes ")") ∷ sign (codes "{") ∷ []) ∷
+    (5, sign (codes "(") ∷ word (codes "where") ∷ sign (codes "=") ∷ word (codes "true") ∷ sign (codes ")") ∷ sign (codes "{") ∷ []) ∷
+    (3, sign (codes "(") ∷ word (codes "p") ∷ sign (codes "=") ∷ literal 1 ∷ sign (codes ")") ∷ sign (codes "{") ∷ []) ∷
+    (1, sign (codes "(") ∷ word (codes "p") ∷ sign (codes "=") ∷ word (codes "true") ∷ sign (codes ")") ∷ sign (codes "}") ∷ []) ∷
+    []
+
+no_heads-read : map (λ x. head_of Three x.1) no_heads ≡ map (λ x. Err x.0) no_heads
+unfolding at pure refuse must bind first more_of others_of several_of truth_of truths_of no_truths head_of
+no_heads-read = refl
+
+-- in language 2 no head has a truth variable
+two-without_heads : head_of Two (sign (codes "(") ∷ word (codes "p") ∷ sign (codes "=") ∷ word (codes "true") ∷ sign (codes ")") ∷ sign (codes "{") ∷ []) ≡ Err 6
+unfolding at must bind no_truths head_of
+two-without_heads = refl
+
+-- names of edition 3 are spelled, and no word that it reserves, nor what begins with a digit
+name-spelled : IsSpelledTruth (named (codes "q_2") false)
+name-spelled = record { word = refl; free = refl }
+
+reserved-unspelled : IsSpelledTruth (named (codes "where") true) → ⊥
+reserved-unspelled h = cc h.free
+
+digit-unspelled : IsSpelledTruth (named (codes "2q") true) → ⊥
+digit-unspelled h = cc h.word
+
+-- a head has no truth variable in language 2
+two-unspelled : IsSpelledHead Two (named (codes "p") true ∷ []) → ⊥
+two-unspelled h = h.0
 
 -- ---- what has a spelling: columns of 32 bits, and factors within the limit
 greatest-spelled : IsSpelledAct (Mix 4294967295 4294967295 (pos (2 ^ 127 - 1)) (negsuc (2 ^ 127 - 2)) (pos 0) (negsuc 0))

@@ -5,25 +5,28 @@ use Rattle.std.specs.Prelude.{ℤ, pos, negsuc, neg_ℤ, nat_le, codes}
 use Rattle.std.specs.Str.{bytes_eq}
 use Rattle.std.proofs.lemmas.Bool.{leb-true}
 use Rattle.std.proofs.lemmas.List.{append-nil}
-use Rattle.cf_tree.specs.declared.base.Edition.TheVariants.{Two}
+use Rattle.cf_tree.specs.declared.base.Edition.{Edition}
+use Rattle.cf_tree.specs.declared.base.Edition.TheVariants.{Two, Three}
 use Rattle.cf_lex.specs.declared.token.Token.{Token}
 use Rattle.cf_lex.specs.declared.token.TokenKind.{TokenKind}
 use Rattle.cf_lex.specs.declared.token.TokenKind.TheVariants.{Literal, Word, Sign}
 use Rattle.cf_tree.specs.declared.base.Place.{Place}
-use Rattle.cf_reader.specs.Tokens.{Next}
+use Rattle.cf_reader.specs.Tokens.{Next, Several}
 use Rattle.cf_reader.specs.Readers.{at_end, others_of, snoc}
 use Rattle.cf_reader.proofs.Yields.{Yields, yields, faults, Took, pure_yields, refuse_yields, widen, bind_yields, must_yields, first_yields, all_added}
-use Rattle.cf_reader.proofs.Yields.{if_some, if_else_some, same_token, same_text, took_next, took_literal, others_yields}
+use Rattle.cf_reader.proofs.Yields.{if_some, if_else_some, same_token, same_text, took_next, took_name, took_literal, others_yields, several_yields}
+use Rattle.cf_reader.proofs.KindLaws.{took_truth}
 use Rattle.cf_reader.proofs.Faults.{found_on}
 use Rattle.cf_target.specs.Levels.{last_level}
 use Rattle.cf_target.proofs.Targets.{part_yields}
 use Rattle.cf_elim.specs.declared.act.Act.{Act}
 use Rattle.cf_elim.specs.declared.act.Act.TheVariants.{Clean, Mix, Last, Search, Drop}
+use Rattle.cf_steps.specs.declared.block.NamedTruth.{NamedTruth}
 use Rattle.cf_steps.specs.Blocks.{BlockTree}
-use Rattle.cf_steps.specs.Spelling.{SpellsColumn, SpellsFactor, side_kind, SpellsAct, SpellsActs, SpellsCase, SpellsCases, SpellsBlock}
+use Rattle.cf_steps.specs.Spelling.{SpellsColumn, SpellsFactor, side_kind, SpellsAct, SpellsActs, SpellsCase, SpellsCases, SpellsTruth, SpellsHead, SpellsBlock}
 use Rattle.cf_steps.specs.Spelling.{SpellsBlocks, AreBlocks}
 use Rattle.cf_steps.specs.Reading.{column_of, a_column, a_side, factor_of, mix_of, search_of, act_of, ended_act, acts_of, all_acts, case_of}
-use Rattle.cf_steps.specs.Reading.{block_of, blocks_of, all_blocks}
+use Rattle.cf_steps.specs.Reading.{truth_of, truths_of, no_truths, head_of, block_of, blocks_of, all_blocks}
 
 -- ---- tokens
 column_on : (k : ℤ) (n : ℕ) → column_of k ≡ Some n → (k ≡ pos n) × (n < 2 ^ 32)
@@ -127,42 +130,71 @@ cases_yields ts =
     widen (λ cases us w. subst (λ z. SpellsCases z ts us) (sym (w.1 ∙ all_added w.0)) w.2)
     (others_yields snoc case_of SpellsCase (Word (codes "case")) (Sign (codes "}")) case_yields [] ts)
 
+-- ---- heads
+truth_yields : (ts : List Token) → Yields (λ t us. SpellsTruth t ts us) (truth_of ts)
+unfolding truth_of
+truth_yields ts =
+    bind_yields _ _ ts (must_yields _ ts) (λ x a m. bind_yields _ _ a (must_yields _ a) (λ p b n. bind_yields _ _ b (must_yields _ b) (λ v c o.
+    pure_yields _ c (a, (x.0, took_name Three ts a x m), (b, took_next _ a b p n, (v.0, took_truth b c v o))))))
+
+some_truths : (truths : List NamedTruth) (ts a b us : List Token) → Next (Sign (codes "(")) ts a →
+    Several SpellsTruth (Sign (codes ",")) (Sign (codes ")")) truths a b → Next (Sign (codes "{")) b us → SpellsHead Three truths ts us
+some_truths [] ts a b us o s c = absurd s
+some_truths (t ∷ truths) ts a b us o s c = (tt, (a, o, (b, s, c)))
+
+truths_yield : (ts a : List Token) → Next (Sign (codes "(")) ts a → Yields (λ truths us. SpellsHead Three truths ts us) (truths_of a)
+unfolding truths_of
+truths_yield ts a o =
+    bind_yields _ _ a (several_yields snoc truth_of SpellsTruth (Sign (codes ",")) (Sign (codes ")")) truth_yields [] a) (λ truths b s.
+    bind_yields _ _ b (must_yields _ b) (λ p us m. pure_yields truths us
+    (some_truths truths ts a b us o (subst (λ z. Several SpellsTruth (Sign (codes ",")) (Sign (codes ")")) z a b) (sym (s.1 ∙ all_added s.0)) s.2)
+    (took_next _ b us p m))))
+
+no_truths_yield : (edition : Edition) (ts : List Token) → Yields (λ truths us. SpellsHead edition truths ts us) (no_truths ts)
+unfolding no_truths
+no_truths_yield edition ts = bind_yields _ _ ts (must_yields _ ts) (λ p us m. pure_yields [] us (took_next _ ts us p m))
+
+head_yields : (edition : Edition) (ts : List Token) → Yields (λ truths us. SpellsHead edition truths ts us) (head_of edition ts)
+unfolding head_of
+head_yields Two ts = no_truths_yield Two ts
+head_yields Three ts = first_yields _ _ _ ts (λ p a m. truths_yield ts a (took_next _ ts a p m)) (no_truths_yield Three ts)
+
 -- ---- blocks
-block_yields : (limit : ℕ) (ts : List Token) → Yields (λ b us. SpellsBlock limit b ts us) (block_of limit ts)
+block_yields : (edition : Edition) (limit : ℕ) (ts : List Token) → Yields (λ b us. SpellsBlock edition limit b ts us) (block_of edition limit ts)
 unfolding block_of
-block_yields limit ts =
-    bind_yields _ _ ts (must_yields _ ts) (λ p0 z w. bind_yields _ _ z (must_yields _ z) (λ n a p. bind_yields _ _ a (must_yields _ a)
-    (λ q b m. bind_yields _ _ b (cases_yields b) (λ cases c s.
+block_yields edition limit ts =
+    bind_yields _ _ ts (must_yields _ ts) (λ p0 z w. bind_yields _ _ z (must_yields _ z) (λ n a p. bind_yields _ _ a (head_yields edition a)
+    (λ truths b o. bind_yields _ _ b (cases_yields b) (λ cases c s.
     bind_yields _ _ c (part_yields Two limit c) (λ t us r.
-    pure_yields _ us (z, took_next _ ts z p0 w, (a, took_column z a n p, (b, took_next _ a b q m, (c, s, r)))))))))
+    pure_yields _ us (z, took_next _ ts z p0 w, (a, took_column z a n p, (b, o, (c, s, r)))))))))
 
-MoreBlocks : ℕ → List BlockTree → List Token → List BlockTree → List Token → Type 0
-MoreBlocks limit done ts all us = (new : List BlockTree) × (all ≡ done ++ new) × SpellsBlocks limit new ts
+MoreBlocks : Edition → ℕ → List BlockTree → List Token → List BlockTree → List Token → Type 0
+MoreBlocks edition limit done ts all us = (new : List BlockTree) × (all ≡ done ++ new) × SpellsBlocks edition limit new ts
 
-one_block : (limit : ℕ) (done : List BlockTree) (b : BlockTree) (ts a : List Token) (all : List BlockTree) (us : List Token) → SpellsBlock limit b ts a →
-    MoreBlocks limit (snoc done b) a all us → MoreBlocks limit done ts all us
+one_block : (edition : Edition) (limit : ℕ) (done : List BlockTree) (b : BlockTree) (ts a : List Token) (all : List BlockTree) (us : List Token) → SpellsBlock edition limit b ts a →
+    MoreBlocks edition limit (snoc done b) a all us → MoreBlocks edition limit done ts all us
 unfolding MoreBlocks
-one_block limit done b ts a all us s (new, e, w) = (b ∷ new, e ∙ append_assoc done (b ∷ []) new, (a, s, w))
+one_block edition limit done b ts a all us s (new, e, w) = (b ∷ new, e ∙ append_assoc done (b ∷ []) new, (a, s, w))
 
-no_blocks : (limit : ℕ) (done : List BlockTree) (us : List Token) → MoreBlocks limit done [] done us
+no_blocks : (edition : Edition) (limit : ℕ) (done : List BlockTree) (us : List Token) → MoreBlocks edition limit done [] done us
 unfolding MoreBlocks
-no_blocks limit done us = ([], sym (append-nil done), refl)
+no_blocks edition limit done us = ([], sym (append-nil done), refl)
 
-blocks_yields : (limit fuel : ℕ) (done : List BlockTree) (ts : List Token) → Yields (MoreBlocks limit done ts) (blocks_of limit fuel done ts)
+blocks_yields : (edition : Edition) (limit fuel : ℕ) (done : List BlockTree) (ts : List Token) → Yields (MoreBlocks edition limit done ts) (blocks_of edition limit fuel done ts)
 unfolding blocks_of at_end
-blocks_yields limit zero done [] = yields done [] (no_blocks limit done [])
-blocks_yields limit zero done (t ∷ ts) = faults 0
-blocks_yields limit (suc fuel) done [] = yields done [] (no_blocks limit done [])
-blocks_yields limit (suc fuel) done (t ∷ ts) =
-    bind_yields _ _ (t ∷ ts) (block_yields limit (t ∷ ts)) (λ b c s. widen (λ all us w. one_block limit done b (t ∷ ts) c all us s w)
-    (blocks_yields limit fuel (snoc done b) c))
+blocks_yields edition limit zero done [] = yields done [] (no_blocks edition limit done [])
+blocks_yields edition limit zero done (t ∷ ts) = faults 0
+blocks_yields edition limit (suc fuel) done [] = yields done [] (no_blocks edition limit done [])
+blocks_yields edition limit (suc fuel) done (t ∷ ts) =
+    bind_yields _ _ (t ∷ ts) (block_yields edition limit (t ∷ ts)) (λ b c s. widen (λ all us w. one_block edition limit done b (t ∷ ts) c all us s w)
+    (blocks_yields edition limit fuel (snoc done b) c))
 
-all_blocks_yields : (limit : ℕ) (ts : List Token) → Yields (λ bs us. SpellsBlocks limit bs ts) (all_blocks limit ts)
+all_blocks_yields : (edition : Edition) (limit : ℕ) (ts : List Token) → Yields (λ bs us. SpellsBlocks edition limit bs ts) (all_blocks edition limit ts)
 unfolding all_blocks MoreBlocks
-all_blocks_yields limit ts = widen (λ bs us w. subst (λ z. SpellsBlocks limit z ts) (sym w.1) w.2) (blocks_yields limit (length ts) [] ts)
+all_blocks_yields edition limit ts = widen (λ bs us w. subst (λ z. SpellsBlocks edition limit z ts) (sym w.1) w.2) (blocks_yields edition limit (length ts) [] ts)
 
-pub found_law : (ts : List Token) (bs : List BlockTree) (us : List Token) → all_blocks 500 ts ≡ Ok (bs, us) → AreBlocks bs ts
-found_law ts bs us e = found_on (λ bs. AreBlocks bs ts) (all_blocks 500 ts) bs us (all_blocks_yields 500 ts) e
+pub found_law : (edition : Edition) (ts : List Token) (bs : List BlockTree) (us : List Token) → all_blocks edition 500 ts ≡ Ok (bs, us) → AreBlocks edition bs ts
+found_law edition ts bs us e = found_on (λ bs. AreBlocks edition bs ts) (all_blocks edition 500 ts) bs us (all_blocks_yields edition 500 ts) e
 
-pub found_from : (ts items : List Token) (bs : List BlockTree) (us : List Token) → ts ≡ items → all_blocks 500 ts ≡ Ok (bs, us) → AreBlocks bs items
-found_from ts items bs us same e = subst (AreBlocks bs) same (found_law ts bs us e)
+pub found_from : (edition : Edition) (ts items : List Token) (bs : List BlockTree) (us : List Token) → ts ≡ items → all_blocks edition 500 ts ≡ Ok (bs, us) → AreBlocks edition bs items
+found_from edition ts items bs us same e = subst (AreBlocks edition bs) same (found_law edition ts bs us e)

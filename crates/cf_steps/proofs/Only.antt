@@ -4,31 +4,33 @@ use Rattle.std.proofs.Common.{refl, sym, ap, ◌∙◌, arith, append_assoc}
 use Rattle.std.specs.Prelude.{ℤ, pos, nat_le, codes}
 use Rattle.std.proofs.lemmas.Bool.{le-leb}
 use Rattle.std.proofs.lemmas.List.{append-nil}
-use Rattle.cf_tree.specs.declared.base.Edition.TheVariants.{Two}
+use Rattle.cf_tree.specs.declared.base.Edition.{Edition}
+use Rattle.cf_tree.specs.declared.base.Edition.TheVariants.{Two, Three}
 use Rattle.cf_lex.specs.declared.token.Token.{Token}
 use Rattle.cf_lex.specs.declared.token.TokenKind.TheVariants.{Literal, Word, Sign}
 use Rattle.cf_tree.specs.declared.base.Place.{Place}
-use Rattle.cf_reader.specs.Tokens.{Next}
+use Rattle.cf_reader.specs.Tokens.{Next, Several}
 use Rattle.cf_reader.specs.Readers.{is, at, must, at_end, others_of, snoc}
 use Rattle.cf_reader.specs.Faults.{IsFaultPlace, IsFaultPlaceOf, place_with_left}
 use Rattle.cf_reader.proofs.Near.{Within, Local, pure_local, refuse_local, end_local, any_local, bind_local, first_local}
-use Rattle.cf_reader.proofs.Near.{must_local, others_local, at_end_local}
+use Rattle.cf_reader.proofs.Near.{must_local, others_local, several_local, at_end_local}
 use Rattle.cf_reader.proofs.Yields.{all_added}
 use Rattle.cf_reader.proofs.Exact.{bind_is, pure_is, must_is, first_is, first_not, at_is, at_not, next_is, literal_is, first_longer, left_over, Items}
-use Rattle.cf_reader.proofs.Exact.{others_are}
-use Rattle.cf_reader.proofs.KindLaws.{sign_literal}
+use Rattle.cf_reader.proofs.Exact.{name_is, others_are, several_are}
+use Rattle.cf_reader.proofs.KindLaws.{sign_literal, truth_is as truth_found}
 use Rattle.cf_reader.proofs.Faults.{same_value, ReadsAll, fault_law as read_fault, exact_law as read_exact}
 use Rattle.cf_target.specs.Levels.{last_level}
 use Rattle.cf_target.specs.Targets.{part_of}
 use Rattle.cf_target.proofs.Only.{part_is, part_local}
 use Rattle.cf_elim.specs.declared.act.Act.{Act}
 use Rattle.cf_elim.specs.declared.act.Act.TheVariants.{Clean, Mix, Last, Search, Drop}
+use Rattle.cf_steps.specs.declared.block.NamedTruth.{NamedTruth}
 use Rattle.cf_steps.specs.Blocks.{BlockTree}
 use Rattle.cf_steps.specs.Answers.{SomeBlocks}
-use Rattle.cf_steps.specs.Spelling.{SpellsColumn, SpellsFactor, side_kind, SpellsAct, SpellsActs, SpellsCase, SpellsCases, SpellsBlock}
+use Rattle.cf_steps.specs.Spelling.{SpellsColumn, SpellsFactor, side_kind, SpellsAct, SpellsActs, SpellsCase, SpellsCases, SpellsTruth, SpellsHead, SpellsBlock}
 use Rattle.cf_steps.specs.Spelling.{SpellsBlocks, AreBlocks}
 use Rattle.cf_steps.specs.Reading.{a_column, a_side, factor_of, mix_of, search_of, act_of, ended_act, acts_of, all_acts, case_of, block_of}
-use Rattle.cf_steps.specs.Reading.{blocks_of, all_blocks}
+use Rattle.cf_steps.specs.Reading.{truth_of, truths_of, no_truths, head_of, blocks_of, all_blocks}
 
 -- ---- reading is local
 factor_local : {more other : List Token} → Local more other factor_of factor_of
@@ -72,24 +74,41 @@ case_local : {more other : List Token} → Local more other case_of case_of
 unfolding case_of
 case_local = bind_local (must_local _) (λ p. all_acts_local)
 
-block_local : {more other : List Token} (limit : ℕ) → Local more other (block_of limit) (block_of limit)
+truth_local : {more other : List Token} → Local more other truth_of truth_of
+unfolding truth_of
+truth_local = bind_local (must_local _) (λ x. bind_local (must_local _) (λ p. bind_local (must_local _) (λ v. pure_local _)))
+
+truths_local : {more other : List Token} → Local more other truths_of truths_of
+unfolding truths_of
+truths_local = bind_local (several_local snoc _ _ [] truth_local) (λ truths. bind_local (must_local _) (λ p. pure_local _))
+
+no_truths_local : {more other : List Token} → Local more other no_truths no_truths
+unfolding no_truths
+no_truths_local = bind_local (must_local _) (λ p. pure_local _)
+
+head_local : {more other : List Token} (edition : Edition) → Local more other (head_of edition) (head_of edition)
+unfolding head_of
+head_local Two = no_truths_local
+head_local Three = first_local _ (λ p. truths_local) no_truths_local
+
+block_local : {more other : List Token} (edition : Edition) (limit : ℕ) → Local more other (block_of edition limit) (block_of edition limit)
 unfolding block_of
-block_local limit =
-    bind_local (must_local _) (λ z. bind_local (must_local _) (λ n. bind_local (must_local _) (λ p. bind_local (others_local snoc _ _ [] case_local)
+block_local edition limit =
+    bind_local (must_local _) (λ z. bind_local (must_local _) (λ n. bind_local (head_local edition) (λ p. bind_local (others_local snoc _ _ [] case_local)
     (λ cases. bind_local (part_local Two limit) (λ t. pure_local _)))))
 
-blocks_local : {more other : List Token} (limit j k : ℕ) (done : List BlockTree) → Local more other (blocks_of limit j done) (blocks_of limit k done)
+blocks_local : {more other : List Token} (edition : Edition) (limit j k : ℕ) (done : List BlockTree) → Local more other (blocks_of edition limit j done) (blocks_of edition limit k done)
 unfolding blocks_of
-blocks_local limit zero zero done = at_end_local done (end_local _)
-blocks_local limit zero (suc k) done = at_end_local done (end_local _)
-blocks_local limit (suc j) zero done = at_end_local done (any_local (bind_local (block_local limit) (λ b. blocks_local limit j j (snoc done b))))
-blocks_local limit (suc j) (suc k) done = at_end_local done (bind_local (block_local limit) (λ b. blocks_local limit j k (snoc done b)))
+blocks_local edition limit zero zero done = at_end_local done (end_local _)
+blocks_local edition limit zero (suc k) done = at_end_local done (end_local _)
+blocks_local edition limit (suc j) zero done = at_end_local done (any_local (bind_local (block_local edition limit) (λ b. blocks_local edition limit j j (snoc done b))))
+blocks_local edition limit (suc j) (suc k) done = at_end_local done (bind_local (block_local edition limit) (λ b. blocks_local edition limit j k (snoc done b)))
 
-all_blocks_local : {more other : List Token} (limit : ℕ) → Local more other (all_blocks limit) (all_blocks limit)
+all_blocks_local : {more other : List Token} (edition : Edition) (limit : ℕ) → Local more other (all_blocks edition limit) (all_blocks edition limit)
 unfolding all_blocks
-all_blocks_local {more} {other} limit = record {
-  within = λ ts m l. (blocks_local {more = more} {other = other} limit (length ts) (length ts) []).within ts m l;
-  near = λ ts us n. (blocks_local {more = more} {other = other} limit (length ts) (length us) []).near ts us n;
+all_blocks_local {more} {other} edition limit = record {
+  within = λ ts m l. (blocks_local {more = more} {other = other} edition limit (length ts) (length ts) []).within ts m l;
+  near = λ ts us n. (blocks_local {more = more} {other = other} edition limit (length ts) (length us) []).near ts us n;
 }
 
 -- ---- what is spelled is read
@@ -200,10 +219,49 @@ cases_are cases ts us w =
     others_are snoc case_of SpellsCase (Word (codes "case")) (Sign (codes "}")) case_items cases [] ts us w
     ∙ ap (λ (z : List (List Act)). Ok (z, us)) (all_added cases)
 
-block_is : (limit : ℕ) (b : BlockTree) (ts us : List Token) → SpellsBlock limit b ts us → block_of limit ts ≡ Ok (b, us)
+truth_is : (t : NamedTruth) (ts us : List Token) → SpellsTruth t ts us → truth_of ts ≡ Ok (t, us)
+unfolding truth_of
+truth_is t ts us (a, (p, n), (b, e, (q, v))) =
+    bind_is _ _ ts (must_is _ ts a (p, t.name) (name_is Three ts a p t.name n)) (bind_is _ _ a (next_is _ a b refl e)
+    (bind_is _ _ b (must_is _ b us (q, t.value) (truth_found t.value q b us v)) (pure_is _ _ us refl)))
+
+truth_items : Items truth_of SpellsTruth (Sign (codes ",")) (Sign (codes ")"))
+truth_items = record {
+  reads = λ t ts us w e. truth_is t ts us w;
+  within = λ ts. (truth_local {more = []} {other = []}).within ts (length ts) (omega arith);
+  separates = refl;
+  closes = refl;
+  differs = refl;
+}
+
+truths_are : (truths : List NamedTruth) (ts a us : List Token) → Several SpellsTruth (Sign (codes ",")) (Sign (codes ")")) truths ts a →
+    Next (Sign (codes "{")) a us → truths_of ts ≡ Ok (truths, us)
+unfolding truths_of
+truths_are truths ts a us s n =
+    bind_is _ _ ts
+    (several_are snoc truth_of SpellsTruth (Sign (codes ",")) (Sign (codes ")")) truth_items truths [] ts a s
+    ∙ ap (λ (z : List NamedTruth). Ok (z, a)) (all_added truths))
+    (bind_is _ _ a (next_is _ a us refl n) (pure_is _ _ us refl))
+
+no_truths_are : (ts us : List Token) → Next (Sign (codes "{")) ts us → no_truths ts ≡ Ok ([], us)
+unfolding no_truths
+no_truths_are ts us n = bind_is _ _ ts (next_is _ ts us refl n) (pure_is _ _ us refl)
+
+pub head_is : (edition : Edition) (truths : List NamedTruth) (ts us : List Token) → SpellsHead edition truths ts us → head_of edition ts ≡ Ok (truths, us)
+unfolding head_of
+head_is Two [] ts us w = no_truths_are ts us w
+head_is Two (t ∷ truths) ts us w = absurd w.0
+head_is Three [] ts us w = first_not _ _ _ ts (at_not (Sign (codes "(")) (Sign (codes "{")) ts us w.0 refl w.1) (no_truths_are ts us w)
+head_is Three (t ∷ truths) ts us (three, (a, o, (b, s, n))) =
+    first_is _ _ _ ts (at_is (Sign (codes "(")) ts a o.0 refl o.1) (truths_are (t ∷ truths) a b us s n)
+
+pub head_within : (edition : Edition) (ts : List Token) → Within (length ts) (head_of edition ts)
+head_within edition ts = (head_local {more = []} {other = []} edition).within ts (length ts) (omega arith)
+
+block_is : (edition : Edition) (limit : ℕ) (b : BlockTree) (ts us : List Token) → SpellsBlock edition limit b ts us → block_of edition limit ts ≡ Ok (b, us)
 unfolding block_of
-block_is limit b ts us (t1, w, (t2, n, (t3, o, (t4, c, t)))) =
-    bind_is _ _ ts (next_is _ ts t1 refl w) (bind_is _ _ t1 (must_column b.number t1 t2 n) (bind_is _ _ t2 (next_is _ t2 t3 refl o) (bind_is _ _ t3
+block_is edition limit b ts us (t1, w, (t2, n, (t3, o, (t4, c, t)))) =
+    bind_is _ _ ts (next_is _ ts t1 refl w) (bind_is _ _ t1 (must_column b.number t1 t2 n) (bind_is _ _ t2 (head_is edition b.truths t2 t3 o) (bind_is _ _ t3
     (cases_are b.cases t3 t4 c)
     (bind_is _ _ t4 (part_is Two limit b.target t4 us t) (pure_is _ _ us refl)))))
 
@@ -213,42 +271,42 @@ part_within limit ts = (part_local {more = []} {other = []} Two limit).within ts
 cases_within : (ts : List Token) → Within (length ts) (others_of snoc case_of (Word (codes "case")) (Sign (codes "}")) [] ts)
 cases_within ts = (others_local {more = []} {other = []} snoc (Word (codes "case")) (Sign (codes "}")) [] case_local).within ts (length ts) (omega arith)
 
-block_shorter : (limit : ℕ) (b : BlockTree) (ts us : List Token) → SpellsBlock limit b ts us → length us < length ts
-block_shorter limit b ts us (t1, w, (t2, n, (t3, o, (t4, c, t)))) =
+block_shorter : (edition : Edition) (limit : ℕ) (b : BlockTree) (ts us : List Token) → SpellsBlock edition limit b ts us → length us < length ts
+block_shorter edition limit b ts us (t1, w, (t2, n, (t3, o, (t4, c, t)))) =
     let i = first_longer (Word (codes "choose")) ts t1 w.0 w.1 in
     let j = first_longer (Literal (pos b.number)) t1 t2 n.1.0 n.1.1 in
-    let k = first_longer (Sign (codes "{")) t2 t3 o.0 o.1 in
+    let k = left_over (length t2) (head_of edition t2) b.truths t3 (head_is edition b.truths t2 t3 o) (head_within edition t2) in
     let l = left_over (length t3) _ b.cases t4 (cases_are b.cases t3 t4 c) (cases_within t3) in
     let m = left_over (length t4) (part_of Two limit t4) b.target us (part_is Two limit b.target t4 us t) (part_within limit t4) in
     omega (arith, i, j, k, l, m)
 
-blocks_are : (limit : ℕ) (bs : List BlockTree) (fuel : ℕ) (done : List BlockTree) (ts : List Token) → SpellsBlocks limit bs ts → length ts ≤ fuel →
-    blocks_of limit fuel done ts ≡ Ok (done ++ bs, [])
+blocks_are : (edition : Edition) (limit : ℕ) (bs : List BlockTree) (fuel : ℕ) (done : List BlockTree) (ts : List Token) → SpellsBlocks edition limit bs ts → length ts ≤ fuel →
+    blocks_of edition limit fuel done ts ≡ Ok (done ++ bs, [])
 unfolding blocks_of at_end
-blocks_are limit [] zero done [] w l = rw (append-nil done) refl
-blocks_are limit [] (suc fuel) done [] w l = rw (append-nil done) refl
-blocks_are limit [] zero done (t ∷ ts) w l = cc
-blocks_are limit [] (suc fuel) done (t ∷ ts) w l = cc
-blocks_are limit (b ∷ bs) zero done ts (mid, s, w) l = absurd (omega (arith, l, block_shorter limit b ts mid s))
-blocks_are limit (b ∷ bs) (suc fuel) done [] (mid, s, w) l = absurd (omega (arith, block_shorter limit b [] mid s))
-blocks_are limit (b ∷ bs) (suc fuel) done (t ∷ ts) (mid, s, w) l =
-    bind_is _ _ (t ∷ ts) (block_is limit b (t ∷ ts) mid s)
-    (blocks_are limit bs fuel (snoc done b) mid w (omega (arith, l, block_shorter limit b (t ∷ ts) mid s))
+blocks_are edition limit [] zero done [] w l = rw (append-nil done) refl
+blocks_are edition limit [] (suc fuel) done [] w l = rw (append-nil done) refl
+blocks_are edition limit [] zero done (t ∷ ts) w l = cc
+blocks_are edition limit [] (suc fuel) done (t ∷ ts) w l = cc
+blocks_are edition limit (b ∷ bs) zero done ts (mid, s, w) l = absurd (omega (arith, l, block_shorter edition limit b ts mid s))
+blocks_are edition limit (b ∷ bs) (suc fuel) done [] (mid, s, w) l = absurd (omega (arith, block_shorter edition limit b [] mid s))
+blocks_are edition limit (b ∷ bs) (suc fuel) done (t ∷ ts) (mid, s, w) l =
+    bind_is _ _ (t ∷ ts) (block_is edition limit b (t ∷ ts) mid s)
+    (blocks_are edition limit bs fuel (snoc done b) mid w (omega (arith, l, block_shorter edition limit b (t ∷ ts) mid s))
     ∙ ap (λ (z : List BlockTree). Ok (z, [])) (append_assoc done (b ∷ []) bs))
 
-pub only_law : (ts : List Token) (bs : List BlockTree) → AreBlocks bs ts → all_blocks 500 ts ≡ Ok (bs, [])
+pub only_law : (edition : Edition) (ts : List Token) (bs : List BlockTree) → AreBlocks edition bs ts → all_blocks edition 500 ts ≡ Ok (bs, [])
 unfolding all_blocks
-only_law ts bs w = blocks_are 500 bs (length ts) [] ts w (omega arith)
+only_law edition ts bs w = blocks_are edition 500 bs (length ts) [] ts w (omega arith)
 
-pub one_law : (ts : List Token) (bs cs : List BlockTree) → AreBlocks bs ts → AreBlocks cs ts → bs ≡ cs
-one_law ts bs cs v w = same_value bs cs [] [] (all_blocks 500 ts) (only_law ts bs v) (only_law ts cs w)
+pub one_law : (edition : Edition) (ts : List Token) (bs cs : List BlockTree) → AreBlocks edition bs ts → AreBlocks edition cs ts → bs ≡ cs
+one_law edition ts bs cs v w = same_value bs cs [] [] (all_blocks edition 500 ts) (only_law edition ts bs v) (only_law edition ts cs w)
 
 -- ---- the place of a fault
-all_read : ReadsAll SomeBlocks (all_blocks 500)
-all_read ts (bs, w) = (bs, [], only_law ts bs w)
+all_read : (edition : Edition) → ReadsAll (SomeBlocks edition) (all_blocks edition 500)
+all_read edition ts (bs, w) = (bs, [], only_law edition ts bs w)
 
-pub fault_law : (ts : List Token) (end : Place) (e : ℕ) → all_blocks 500 ts ≡ Err e → IsFaultPlace SomeBlocks ts end (place_with_left ts end e)
-fault_law ts end e p = read_fault SomeBlocks (all_blocks 500) (λ more other. all_blocks_local 500) all_read ts end e p
+pub fault_law : (edition : Edition) (ts : List Token) (end : Place) (e : ℕ) → all_blocks edition 500 ts ≡ Err e → IsFaultPlace (SomeBlocks edition) ts end (place_with_left ts end e)
+fault_law edition ts end e p = read_fault (SomeBlocks edition) (all_blocks edition 500) (λ more other. all_blocks_local edition 500) (all_read edition) ts end e p
 
-pub exact_law : (ts : List Token) (end : Place) (e : ℕ) → all_blocks 500 ts ≡ Err e → IsFaultPlaceOf (all_blocks 500) ts end (place_with_left ts end e)
-exact_law ts end e p = read_exact (all_blocks 500) ts end e p
+pub exact_law : (edition : Edition) (ts : List Token) (end : Place) (e : ℕ) → all_blocks edition 500 ts ≡ Err e → IsFaultPlaceOf (all_blocks edition 500) ts end (place_with_left ts end e)
+exact_law edition ts end e p = read_exact (all_blocks edition 500) ts end e p

@@ -9,7 +9,7 @@ use Rattle.cf_tree.specs.CodeTree.{CodeTree, code_lit, code_var, code_sum, code_
 use Rattle.cf_tree.specs.CodeView.{code_tree}
 use Rattle.cf_elim.specs.declared.act.Act.{Act}
 use Rattle.cf_elim.specs.declared.act.Act.TheVariants.{Clean, Mix, Last, Search, Drop}
-use Rattle.cf_steps.specs.Printed.{act_text, cases_text, block_text}
+use Rattle.cf_steps.specs.Printed.{act_text, cases_text, head_text, block_text}
 
 -- ---- steps and their texts
 abbrev printed : List (Act × List ℕ)
@@ -31,6 +31,17 @@ cases-printed : cases_text ([] ∷ (Clean ∷ Last 1 ∷ []) ∷ []) ≡ codes "
 unfolding digits
 cases-printed = refl
 
+-- ---- heads: nothing where a choose has but one branch
+heads-printed : map head_text ([] ∷ (record { name = codes "p"; value = true } ∷ []) ∷
+    (record { name = codes "p"; value = true } ∷ record { name = codes "q_2"; value = false } ∷ []) ∷ [])
+    ≡ [] ∷ codes " (p = true)" ∷ codes " (p = true, q_2 = false)" ∷ []
+heads-printed = refl
+
+branch-printed : (t : RawTarget) → t.params.items ≡ [] → t.results.items ≡ Int ∷ [] → code_tree t.code ≡ code_lit (pos 0) →
+    block_text 12 (record { name = codes "p"; value = false } ∷ []) [] t ≡ codes "choose 12 (p = false) {\n}\ncomfusy 2\nmain (): int = 0\n"
+unfolding digits
+branch-printed t p r c = rw (p, r, c) refl
+
 -- ---- the block for rounding: some x with a <= 2 * x and 2 * x <= b
 abbrev negated : CodeTree → CodeTree
 negated c = code_mul (code_lit (negsuc 0)) c
@@ -45,7 +56,7 @@ rounding =
     (code_more (code_var 4) no_codes)) no_arms)
 
 block-printed : (t : RawTarget) → t.params.items ≡ Int ∷ Int ∷ [] → t.results.items ≡ Int ∷ [] → code_tree t.code ≡ rounding →
-    block_text 1 ((Clean ∷ Drop 3 ∷ Clean ∷ []) ∷ []) t
+    block_text 1 [] ((Clean ∷ Drop 3 ∷ Clean ∷ []) ∷ []) t
     ≡ codes "choose 1 {\ncase {\nclean;\ndrop 3;\nclean;\n}\n}\ncomfusy 2\nmain (int, int): int = solve 1 {\narm [] {\nlet div((-1 * v0), 2);\nlet div(v1, 2);\nneed ((v2 + v3) >= 0);\nlet (-1 * v2);\ngive v4\n}\n}\n"
 unfolding digits
 block-printed t p r c = rw (p, r, c) refl

@@ -2,6 +2,7 @@
 use Rattle.std.proofs.Common.{◌≡◌, ◌==◌, Bool, true, false, ℕ, suc, zero, ◌<◌, List, [], ◌∷◌, ◌++◌, map, length, Some, None, Ok, Err, refl, sym, ap, ◌∙◌, arith}
 use Rattle.std.specs.Prelude.{codes}
 use borrow.Author.Tests.{eqb-true}
+use Rattle.cf_tree.specs.declared.base.Edition.{Edition}
 use Rattle.cf_lex.specs.declared.token.Token.{Token}
 use Rattle.cf_lex.specs.declared.token.TokenKind.{TokenKind}
 use Rattle.cf_lex.specs.declared.token.TokenKind.TheVariants.{Sign}
@@ -62,47 +63,47 @@ only_memory stops.NoMemory y read h = tt
 only_memory (stops.TokensLeft n) y read h = cc h
 
 -- ---- blocks
-pub blocks_end : (limit k : ℕ) (done : List BlockTree) (ts : List Token) → length ts ≡ 0 → blocks_of limit k done ts ≡ Ok (done, ts)
+pub blocks_end : (edition : Edition) (limit k : ℕ) (done : List BlockTree) (ts : List Token) → length ts ≡ 0 → blocks_of edition limit k done ts ≡ Ok (done, ts)
 unfolding blocks_of at_end
-blocks_end limit zero done [] h = refl
-blocks_end limit (suc k) done [] h = refl
-blocks_end limit k done (t ∷ ts) h = absurd (omega (arith, h))
+blocks_end edition limit zero done [] h = refl
+blocks_end edition limit (suc k) done [] h = refl
+blocks_end edition limit k done (t ∷ ts) h = absurd (omega (arith, h))
 
-pub blocks_stop : (limit k : ℕ) (done : List BlockTree) (ts : List Token) → k ≡ 0 → 0 < length ts → blocks_of limit k done ts ≡ Err 0
+pub blocks_stop : (edition : Edition) (limit k : ℕ) (done : List BlockTree) (ts : List Token) → k ≡ 0 → 0 < length ts → blocks_of edition limit k done ts ≡ Err 0
 unfolding blocks_of at_end
-blocks_stop limit zero done [] e h = absurd (omega (arith, h))
-blocks_stop limit zero done (t ∷ ts) e h = refl
-blocks_stop limit (suc k) done ts e h = absurd (omega (arith, e))
+blocks_stop edition limit zero done [] e h = absurd (omega (arith, h))
+blocks_stop edition limit zero done (t ∷ ts) e h = refl
+blocks_stop edition limit (suc k) done ts e h = absurd (omega (arith, e))
 
-blocks_go : (limit k j : ℕ) (done : List BlockTree) (ts : List Token) (b : BlockTree) (us : List Token) → block_of limit ts ≡ Ok (b, us) → k ≡ suc j →
-    0 < length ts → blocks_of limit k done ts ≡ blocks_of limit j (snoc done b) us
+blocks_go : (edition : Edition) (limit k j : ℕ) (done : List BlockTree) (ts : List Token) (b : BlockTree) (us : List Token) → block_of edition limit ts ≡ Ok (b, us) → k ≡ suc j →
+    0 < length ts → blocks_of edition limit k done ts ≡ blocks_of edition limit j (snoc done b) us
 unfolding blocks_of bind at_end
-blocks_go limit k j done [] b us g e h = absurd (omega (arith, h))
-blocks_go limit k j done (t ∷ ts) b us g e h = rw (e, blocks_of, at_end, bind, g) refl
+blocks_go edition limit k j done [] b us g e h = absurd (omega (arith, h))
+blocks_go edition limit k j done (t ∷ ts) b us g e h = rw (e, blocks_of, at_end, bind, g) refl
 
-blocks_err : (limit k : ℕ) (done : List BlockTree) (ts : List Token) (e : ℕ) → block_of limit ts ≡ Err e → 0 < k → 0 < length ts →
-    blocks_of limit k done ts ≡ Err e
+blocks_err : (edition : Edition) (limit k : ℕ) (done : List BlockTree) (ts : List Token) (e : ℕ) → block_of edition limit ts ≡ Err e → 0 < k → 0 < length ts →
+    blocks_of edition limit k done ts ≡ Err e
 unfolding blocks_of bind at_end
-blocks_err limit zero done ts e g l h = absurd (omega arith)
-blocks_err limit (suc k) done [] e g l h = absurd (omega (arith, h))
-blocks_err limit (suc k) done (t ∷ ts) e g l h = rw (blocks_of, at_end, bind, g) refl
+blocks_err edition limit zero done ts e g l h = absurd (omega arith)
+blocks_err edition limit (suc k) done [] e g l h = absurd (omega (arith, h))
+blocks_err edition limit (suc k) done (t ∷ ts) e g l h = rw (blocks_of, at_end, bind, g) refl
 
-pub blocks_fail : (limit k : ℕ) (done : List BlockTree) (ts : List Token) (e : ReadStop) → StopAnswer e (block_of limit ts) → 0 < k → 0 < length ts →
-    StopAnswer e (blocks_of limit k done ts)
-blocks_fail limit k done ts stops.NoMemory g l h = tt
-blocks_fail limit k done ts (stops.TokensLeft n) g l h = blocks_err limit k done ts n g l h
+pub blocks_fail : (edition : Edition) (limit k : ℕ) (done : List BlockTree) (ts : List Token) (e : ReadStop) → StopAnswer e (block_of edition limit ts) → 0 < k → 0 < length ts →
+    StopAnswer e (blocks_of edition limit k done ts)
+blocks_fail edition limit k done ts stops.NoMemory g l h = tt
+blocks_fail edition limit k done ts (stops.TokensLeft n) g l h = blocks_err edition limit k done ts n g l h
 
 map_more : (xs : List Block) (x : Block) → map block_tree (xs ++ x ∷ []) ≡ snoc (map block_tree xs) (block_tree x)
 map_more [] x = refl
 map_more (y ∷ ys) x = ap (λ (zs : List BlockTree). block_tree y ∷ zs) (map_more ys x)
 
 -- the next turn of the loop
-pub blocks_next : (limit k j : ℕ) (done done' : List Block) (x : Block) (ts us : List Token) (whole : Got (List BlockTree)) →
-    block_of limit ts ≡ Ok (block_tree x, us) → k ≡ suc j → 0 < length ts → done' ≡ done ++ x ∷ [] →
-    blocks_of limit k (map block_tree done) ts ≡ whole → blocks_of limit j (map block_tree done') us ≡ whole
-blocks_next limit k j done done' x ts us whole g e h d w =
-    ap (λ (z : List Block). blocks_of limit j (map block_tree z) us) d ∙ ap (λ (z : List BlockTree). blocks_of limit j z us) (map_more done x)
-    ∙ sym (blocks_go limit k j (map block_tree done) ts (block_tree x) us g e h) ∙ w
+pub blocks_next : (edition : Edition) (limit k j : ℕ) (done done' : List Block) (x : Block) (ts us : List Token) (whole : Got (List BlockTree)) →
+    block_of edition limit ts ≡ Ok (block_tree x, us) → k ≡ suc j → 0 < length ts → done' ≡ done ++ x ∷ [] →
+    blocks_of edition limit k (map block_tree done) ts ≡ whole → blocks_of edition limit j (map block_tree done') us ≡ whole
+blocks_next edition limit k j done done' x ts us whole g e h d w =
+    ap (λ (z : List Block). blocks_of edition limit j (map block_tree z) us) d ∙ ap (λ (z : List BlockTree). blocks_of edition limit j z us) (map_more done x)
+    ∙ sym (blocks_go edition limit k j (map block_tree done) ts (block_tree x) us g e h) ∙ w
 
 pub empty : (ts : List Token) (b : Bool) → b ≡ (length ts == 0) → b ≡ true → length ts ≡ 0
 empty ts b e f = eqb-true (length ts) 0 (sym e ∙ f)

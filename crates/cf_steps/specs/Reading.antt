@@ -2,13 +2,16 @@
 use Rattle.std.specs.Prelude.{ℕ, zero, suc, ℤ, pos, negsuc, neg_ℤ, nat_le, Bool, true, false, List, [], length, Option, Some, None, Err}
 use Rattle.std.specs.Prelude.{codes, if◌then◌else◌}
 use Rattle.std.specs.Str.{bytes_eq}
-use Rattle.cf_tree.specs.declared.base.Edition.TheVariants.{Two}
+use Rattle.cf_tree.specs.declared.base.Edition.{Edition}
+use Rattle.cf_tree.specs.declared.base.Edition.TheVariants.{Two, Three}
 use Rattle.cf_lex.specs.declared.token.TokenKind.TheVariants.{Literal, Word, Sign}
-use Rattle.cf_reader.specs.Readers.{Reader, Test, is, a_literal, pure, refuse, must, ◌>>=◌, first, at_end, others_of, snoc}
+use Rattle.cf_reader.specs.Kinds.{a_truth}
+use Rattle.cf_reader.specs.Readers.{Reader, Test, is, a_literal, a_name, pure, refuse, must, ◌>>=◌, first, at_end, others_of, several_of, snoc}
 use Rattle.cf_target.specs.Levels.{last_level}
 use Rattle.cf_target.specs.Targets.{part_of}
 use Rattle.cf_elim.specs.declared.act.Act.{Act}
 use Rattle.cf_elim.specs.declared.act.Act.TheVariants.{Clean, Mix, Last, Search, Drop}
+use Rattle.cf_steps.specs.declared.block.NamedTruth.{NamedTruth}
 use Rattle.cf_steps.specs.Blocks.{BlockTree}
 
 -- ---- steps
@@ -73,21 +76,43 @@ all_acts ts = acts_of (length ts) [] ts
 unfoldable pub case_of : Reader (List Act)
 case_of = must (is (Sign (codes "{"))) >>= λ p. all_acts
 
+-- ---- heads
+-- name "=" ("true" | "false")
+unfoldable pub truth_of : Reader NamedTruth
+truth_of = do
+  name ← must (a_name Three)
+  _ ← must (is (Sign (codes "=")))
+  value ← must a_truth
+  pure (record { name = name.1; value = value.1 })
+
+-- truth { "," truth } ")" "{", behind the opening parenthesis
+unfoldable pub truths_of : Reader (List NamedTruth)
+truths_of = several_of snoc truth_of (Sign (codes ",")) (Sign (codes ")")) [] >>= λ truths. must (is (Sign (codes "{"))) >>= λ p. pure truths
+
+-- "{"
+unfoldable pub no_truths : Reader (List NamedTruth)
+no_truths = must (is (Sign (codes "{"))) >>= λ p. pure []
+
+-- [ "(" truth { "," truth } ")" ] "{", with truths in edition 3 alone
+unfoldable pub head_of : Edition → Reader (List NamedTruth)
+head_of Two = no_truths
+head_of Three = first (is (Sign (codes "("))) (λ p. truths_of) no_truths
+
 -- ---- blocks
--- "choose" literal "{" { "case" case } "}" target
-unfoldable pub block_of : ℕ → Reader BlockTree
-block_of limit = do
+-- "choose" literal head { "case" case } "}" target
+unfoldable pub block_of : Edition → ℕ → Reader BlockTree
+block_of edition limit = do
   _ ← must (is (Word (codes "choose")))
   number ← must a_column
-  _ ← must (is (Sign (codes "{")))
+  truths ← head_of edition
   cases ← others_of snoc case_of (Word (codes "case")) (Sign (codes "}")) []
   target ← part_of Two limit
-  pure (record { number = number; cases = cases; target = target })
+  pure (record { number = number; truths = truths; cases = cases; target = target })
 
 -- { block } up to the end, behind the blocks that were read before
-unfoldable pub blocks_of : ℕ → ℕ → List BlockTree → Reader (List BlockTree)
-blocks_of limit zero done = at_end done (λ ts. Err 0)
-blocks_of limit (suc fuel) done = at_end done (block_of limit >>= λ b. blocks_of limit fuel (snoc done b))
+unfoldable pub blocks_of : Edition → ℕ → ℕ → List BlockTree → Reader (List BlockTree)
+blocks_of edition limit zero done = at_end done (λ ts. Err 0)
+blocks_of edition limit (suc fuel) done = at_end done (block_of edition limit >>= λ b. blocks_of edition limit fuel (snoc done b))
 
-unfoldable pub all_blocks : ℕ → Reader (List BlockTree)
-all_blocks limit ts = blocks_of limit (length ts) [] ts
+unfoldable pub all_blocks : Edition → ℕ → Reader (List BlockTree)
+all_blocks edition limit ts = blocks_of edition limit (length ts) [] ts

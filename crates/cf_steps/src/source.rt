@@ -12,6 +12,7 @@ ghost use Rattle.cf_steps.specs.Spelled.{HaveSpelling};
 ghost use Rattle.cf_steps.specs.Spelling.{AreBlocks};
 
 use crate::block::{Block, Blocks};
+use crate::head::head;
 use crate::number::expect_column;
 use crate::step::case;
 use cf_elim::Act;
@@ -57,16 +58,22 @@ fn cases(alloc: Global, tokens: &[Token]) -> Result<(Vec<Vec<Act>>, &[Token]), R
 
 // A block whose target has a code of depth at most `limit`.
 #[tactic(auto, unfolding(cf_reader::specs::Readers::bind, cf_reader::specs::Readers::pure, crate::specs::Reading::block_of))]
-fn block(alloc: Global, limit: u32, tokens: &[Token]) -> Result<(Block, &[Token]), ReadStop>
-    ensures { ReadAnswer (λ x. (block_tree x.0, x.1.now)) result (block_of limit tokens.now) }
+fn block(
+    alloc: Global,
+    edition: Edition,
+    limit: u32,
+    tokens: &[Token],
+) -> Result<(Block, &[Token]), ReadStop>
+    ensures { ReadAnswer (λ x. (block_tree x.0, x.1.now)) result (block_of edition limit tokens.now) }
 {
     let (_, rest) = expect_word("choose", tokens)?;
     let (number, rest) = expect_column(rest)?;
-    let (_, rest) = expect_sign("{", rest)?;
+    let (truths, rest) = head(alloc, edition, rest)?;
     let (cases, rest) = cases(alloc, rest)?;
     let (target, rest) = target_part(alloc, Edition::Two, limit, rest)?;
     let block = Block {
         number,
+        truths,
         cases,
         target,
     };
@@ -75,8 +82,13 @@ fn block(alloc: Global, limit: u32, tokens: &[Token]) -> Result<(Block, &[Token]
 
 // The blocks up to the end, whose targets have codes of depth at most `limit`.
 #[tactic(auto, unfolding(crate::specs::Reading::all_blocks))]
-fn blocks(alloc: Global, limit: u32, tokens: &[Token]) -> Result<(Vec<Block>, &[Token]), ReadStop>
-    ensures { ReadAnswer (λ x. (map block_tree x.0.items, x.1.now)) result (all_blocks limit tokens.now) }
+fn blocks(
+    alloc: Global,
+    edition: Edition,
+    limit: u32,
+    tokens: &[Token],
+) -> Result<(Vec<Block>, &[Token]), ReadStop>
+    ensures { ReadAnswer (λ x. (map block_tree x.0.items, x.1.now)) result (all_blocks edition limit tokens.now) }
 {
     let mut done = Vec::new(alloc);
     let mut rest = tokens;
@@ -84,7 +96,7 @@ fn blocks(alloc: Global, limit: u32, tokens: &[Token]) -> Result<(Vec<Block>, &[
         if rest.is_empty() {
             return Ok((done, rest));
         }
-        let (x, behind) = block(alloc, limit, rest)?;
+        let (x, behind) = block(alloc, edition, limit, rest)?;
         done.push(x)?;
         rest = behind;
     }
@@ -96,29 +108,29 @@ fn blocks(alloc: Global, limit: u32, tokens: &[Token]) -> Result<(Vec<Block>, &[
     }
 }
 
-/// The blocks that the tokens spell, in order.
+/// The blocks that the tokens spell for a source of this edition, in order.
 ///
 /// # Errors
 /// `Syntax` exactly where they spell none, with the place at which reading from left to right stops;
 /// and `NoMemory`.
 #[tactic(auto, using(crate::proofs::Found::found_law, crate::proofs::Only::only_law, crate::proofs::Only::fault_law, crate::proofs::Only::exact_law, crate::proofs::Only::one_law))]
-pub fn steps(alloc: Global, tokens: &TokenList) -> Result<Blocks, ParseFault>
+pub fn steps(alloc: Global, edition: Edition, tokens: &TokenList) -> Result<Blocks, ParseFault>
     // What is read is spelled by the tokens, within the depth limit of targets.
-    ensures found { IfOk result (λ x. AreBlocks (block_trees x) tokens.now.list.items) }
+    ensures found { IfOk result (λ x. AreBlocks edition (block_trees x) tokens.now.list.items) }
     // What is spelled by the tokens is read, unless memory runs out; so Syntax comes only where there are no blocks.
-    ensures only { (bs : List BlockTree) → AreBlocks bs tokens.now.list.items → BlocksAnswer bs result }
+    ensures only { (bs : List BlockTree) → AreBlocks edition bs tokens.now.list.items → BlocksAnswer bs result }
     // At most one list of blocks is spelled by the tokens.
-    ensures one { (bs cs : List BlockTree) → AreBlocks bs tokens.now.list.items → AreBlocks cs tokens.now.list.items → bs ≡ cs }
+    ensures one { (bs cs : List BlockTree) → AreBlocks edition bs tokens.now.list.items → AreBlocks edition cs tokens.now.list.items → bs ≡ cs }
     // Syntax stands at a token up to and with which no blocks begin, or at the end.
-    ensures place { IfErr result (λ e. IsFault SomeBlocks tokens.now.list.items tokens.now.end e) }
+    ensures place { IfErr result (λ e. IsFault (SomeBlocks edition) tokens.now.list.items tokens.now.end e) }
     // It is the place at which reading from left to right stops.
-    ensures exact { IfErr result (λ e. IsFaultOf (all_blocks 500) tokens.now.list.items tokens.now.end e) }
+    ensures exact { IfErr result (λ e. IsFaultOf (all_blocks edition 500) tokens.now.list.items tokens.now.end e) }
     // Each step has a token of its own.
     ensures few { IfOk result (λ x. length (flat_map block_acts (block_trees x)) ≤ length tokens.now.list.items) }
     // Where the literals are within the limit, the blocks have a spelling, so that they can be printed and read again.
     ensures spelled { AreWithin (2 ^ 127 - 1) tokens.now.list.items → IfOk result (λ x. HaveSpelling x) }
 {
-    match blocks(alloc, DEPTH_LIMIT, tokens.list.as_slice()) {
+    match blocks(alloc, edition, DEPTH_LIMIT, tokens.list.as_slice()) {
         Ok((list, _)) => Ok(Blocks { list }),
         Err(ReadStop::NoMemory) => Err(ParseFault::NoMemory),
         Err(ReadStop::TokensLeft(left)) => Err(ParseFault::Syntax(place_at(tokens, left))),

@@ -15,7 +15,7 @@ use Rattle.cf_answer.specs.declared.fault.Fault.{Fault}
 use Rattle.cf_answer.specs.declared.fault.Fault.TheVariants as fault
 use Rattle.cf_answer.specs.declared.status.Status.{Status}
 use Rattle.cf_answer.specs.declared.status.Status.TheVariants.{Done, Usage, File, Input, Output, Text, Types, InputLong, NoMemory}
-use Rattle.cf_top.specs.Top.{IsShort, IsLong, IsComplete, Completes, TopAnswer}
+use Rattle.cf_top.specs.Top.{IsShort, IsLong, IsOverfull, IsComplete, Completes, TopAnswer}
 
 abbrev compiles : Command
 compiles = compile (record { plain = false; stats = false }) (codes "a")
@@ -27,22 +27,22 @@ abbrev one_file : List (List ℕ)
 one_file = codes "1" ∷ []
 
 -- ---- the bound of an input
-short-at_the_limit : (bytes : List ℕ) → length bytes ≡ 16777216 → IsShort true (Some bytes)
+short-at_the_limit : (bytes : List ℕ) → length bytes ≡ 16777216 → IsShort (Some input_limit) true (Some bytes)
 unfolding input_limit
 short-at_the_limit bytes e = (bytes, refl, omega (arith, e))
 
 same-input : (b c : List ℕ) → Some b ≡ Some c → b ≡ c
 same-input b c e = cc e
 
-not-short_past_the_limit : (bytes : List ℕ) → length bytes ≡ 16777217 → IsShort true (Some bytes) → ⊥
+not-short_past_the_limit : (bytes : List ℕ) → length bytes ≡ 16777217 → IsShort (Some input_limit) true (Some bytes) → ⊥
 unfolding input_limit
 not-short_past_the_limit bytes e h = omega (arith, e, ap length (same-input bytes h.0 h.1), h.2)
 
-long-past_the_limit : (bytes : List ℕ) → length bytes ≡ 16777217 → IsLong true (Some bytes)
+long-past_the_limit : (bytes : List ℕ) → length bytes ≡ 16777217 → IsLong (Some input_limit) true (Some bytes)
 unfolding input_limit
 long-past_the_limit bytes e = (bytes, refl, omega (arith, e))
 
-not-long_at_the_limit : (bytes : List ℕ) → length bytes ≡ 16777216 → IsLong true (Some bytes) → ⊥
+not-long_at_the_limit : (bytes : List ℕ) → length bytes ≡ 16777216 → IsLong (Some input_limit) true (Some bytes) → ⊥
 unfolding input_limit
 not-long_at_the_limit bytes e h = omega (arith, e, ap length (same-input bytes h.0 h.1), h.2)
 
@@ -75,7 +75,7 @@ module _ (accepted : IsAccepted compiles one_file) where
   accepted-done = record { refused = λ f r. absurd (accepted f r); done = λ a i o s. inl refl; too_long = λ a i o l. absurd l }
 
   accepted-without_memory : IsComplete compiles one_file None NoMemory
-  accepted-without_memory = record { refused = λ f r. absurd (accepted f r); done = λ a i o s. inr refl; too_long = λ a i o l. absurd l }
+  accepted-without_memory = record { refused = λ f r. absurd (accepted f r); done = λ a i o s. inr (inl refl); too_long = λ a i o l. absurd l }
 
   accepted-output : IsComplete compiles one_file None Output
   accepted-output = record { refused = λ f r. absurd (accepted f r); done = λ a i o s. absurd (o refl); too_long = λ a i o l. absurd l }
@@ -86,18 +86,20 @@ module _ (accepted : IsAccepted compiles one_file) where
   accepted-not_refused : IsComplete compiles one_file None Types → ⊥
   accepted-not_refused c = no (c.done accepted (λ e. cc e) (λ e. cc e) tt)
     where
-      no : (Types ≡ Done) ⊎ (Types ≡ NoMemory) → ⊥
+      no : (Types ≡ Done) ⊎ (Types ≡ NoMemory) ⊎ IsOverfull compiles one_file Types → ⊥
       no (inl e) = cc e
-      no (inr e) = cc e
+      no (inr (inl e)) = cc e
+      no (inr (inr o)) = cc (o.is)
 
 -- `run` on a short input is done, and on a long one that is told
 module _ (accepted : IsAccepted runs one_file) where
-  short-done : IsShort true (Some (codes "1\n")) → IsComplete runs one_file (Some (codes "1\n")) InputLong → ⊥
+  short-done : IsShort (Some input_limit) true (Some (codes "1\n")) → IsComplete runs one_file (Some (codes "1\n")) InputLong → ⊥
   short-done short c = no (c.done accepted (λ e. cc e) (λ e. cc e) short)
     where
-      no : (InputLong ≡ Done) ⊎ (InputLong ≡ NoMemory) → ⊥
+      no : (InputLong ≡ Done) ⊎ (InputLong ≡ NoMemory) ⊎ IsOverfull runs one_file InputLong → ⊥
       no (inl e) = cc e
-      no (inr e) = cc e
+      no (inr (inl e)) = cc e
+      no (inr (inr o)) = cc (o.is)
 
   long-told : (bytes : List ℕ) → length bytes ≡ 16777217 → IsComplete runs one_file (Some bytes) InputLong
   long-told bytes e = record {
@@ -141,7 +143,7 @@ completes-by_its_text : Refuses compiles one_file fault.TextTooLong → Complete
 completes-by_its_text r c = one-of Done ((c one_file refl (λ e. cc e)).refused fault.TextTooLong r) (λ e. cc e) (λ e. cc e)
 
 -- the input that is left
-completes-by_its_input : IsAccepted runs one_file → IsShort true (Some (codes "1\n")) → Completes runs before InputLong → ⊥
+completes-by_its_input : IsAccepted runs one_file → IsShort (Some input_limit) true (Some (codes "1\n")) → Completes runs before InputLong → ⊥
 completes-by_its_input accepted short c = short-done accepted short (c one_file refl (λ e. cc e))
 
 -- the texts of two files in order
@@ -191,8 +193,12 @@ refused-words_untold = record {
   is = refl;
   answers = (inl refl, refl, refl);
   told = record {
-    prefix =
-        (codes "usa", codes "ge: comfusy compile|pre|check|run|exec|prove FILE, or comfusy verify FILE STEPS, or comfusy gen N, or comfusy --help\n", refl, refl);
+    prefix = (
+      codes "usa",
+      codes "ge: comfusy compile|pre|check|run|exec|prove FILE, or comfusy verify FILE STEPS, or comfusy gen N, or comfusy --help\n",
+      refl,
+      refl,
+    );
     whole = inl refl;
   };
 }

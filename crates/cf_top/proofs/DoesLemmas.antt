@@ -6,9 +6,11 @@ use Rattle.cf_io.specs.Causes.{Rose, one_more}
 use Rattle.cf_io.specs.Seen.{ShelfSeen}
 use Rattle.cf_pass.specs.Passes.{Told}
 use Rattle.cf_words.specs.Commands.{Command, command_on, verify}
-use Rattle.cf_answer.specs.Commands.{names_of, reads_input, calls_passes}
-use Rattle.cf_answer.specs.Ends.{Ends, Does, Answers, AnswersOn, IsInOrder, source_alone}
-use Rattle.cf_answer.specs.Limits.{text_limit}
+use Rattle.cf_answer.specs.Commands.{names_of, reads_input, calls_passes, text_most}
+use Rattle.cf_answer.specs.Ends.{Ends, Does, Answers, AnswersOn, IsInOrder, source_alone, taken_by}
+use Rattle.cf_answer.specs.Limits.{text_limit, written_limit, of_target, most_of, edition_for, input_most}
+use Rattle.cf_tree.specs.declared.base.Edition.{Edition}
+use Rattle.cf_tree.specs.declared.base.Edition.TheVariants.{Two, Three}
 use Rattle.cf_answer.specs.Outside.{Outside, AreTold, AreTexts, IsSparing, IsFrugal}
 use Rattle.cf_answer.specs.Refusals.{too_long, Refuses}
 use Rattle.cf_answer.specs.declared.status.Status.{Status}
@@ -46,32 +48,39 @@ one_contains name = search rules
 has_name : (c : Command) (name : List ℕ) → names_of c ≡ name ∷ [] → Contains (names_of c) name
 has_name c name e = subst (λ ns. Contains ns name) (sym e) (one_contains name)
 
--- what reading a file did
-pub record FileRead (name : List ℕ) (before after : ShelfSeen) : Type 0 where
+-- what reading a file for a command did
+pub record FileRead (c : Command) (name : List ℕ) (before after : ShelfSeen) : Type 0 where
+  pub limit : ℕ
+  pub is : (files : List (List ℕ)) → limit ≡ text_most c (edition_for files)
   pub fetched : after.fetches ≡ one_more before.fetches
-  pub most : (after.left ≡ before.left) ⊎ TookFront (text_limit + 1) (before.texts name) after.left
-  pub given : after.given ≤ before.given + (text_limit + 1)
+  pub most : (after.left ≡ before.left) ⊎ TookFront (limit + 1) (before.texts name) after.left
+  pub given : after.given ≤ before.given + (limit + 1)
   pub ends : after.ends ≤ before.ends + 1
 
-pub file_read : (name : List ℕ) (before after : ShelfSeen) (limit : ℕ) → limit ≡ text_limit → after.fetches ≡ one_more before.fetches →
+abbrev pub file_read : (c : Command) (name : List ℕ) (before after : ShelfSeen) (limit : ℕ) → ((files : List (List ℕ)) → limit ≡ text_most c (edition_for files)) →
+    after.fetches ≡ one_more before.fetches →
     (after.left ≡ before.left) ⊎ TookFront (limit + 1) (before.texts name) after.left → after.given ≤ before.given + (limit + 1) →
-    after.ends ≤ before.ends + 1 → FileRead name before after
-file_read name before after limit is asked most given ends = record { fetched = asked; most = rw is at most; given = rw is at given; ends = ends }
+    after.ends ≤ before.ends + 1 → FileRead c name before after
+file_read c name before after limit is asked most given ends =
+    record { limit = limit; is = is; fetched = asked; most = most; given = given; ends = ends }
 
-frugal : (c : Command) (name : List ℕ) (before after : Outside) → names_of c ≡ name ∷ [] → FileRead name before.shelf after.shelf →
-    IsSparing before.streams.input after.streams.input → IsFrugal (names_of c) before after
-frugal c name before after e file input = record {
-  fetches = rw e (omega (arith, file.fetched));
-  file = elim file.most [ inl same ↦ inl same | inr took ↦ inr (name, has_name c name e, took) ];
-  given = rw e (omega (arith, file.given));
-  ends = rw e (omega (arith, file.ends));
-  input = input;
-}
+frugal : (files : List (List ℕ)) (c : Command) (name : List ℕ) (before after : Outside) → names_of c ≡ name ∷ [] →
+    FileRead c name before.shelf after.shelf → IsSparing (input_most files) before.streams.input after.streams.input →
+    IsFrugal (taken_by c files) (names_of c) before after
+frugal files c name before after e file input =
+    let most = rw (file.is files) at file.most in
+    let given = rw (file.is files) at file.given in record {
+      fetches = rw e (omega (arith, file.fetched));
+      file = elim most [ inl same ↦ inl same | inr took ↦ inr (name, has_name c name e, took) ];
+      given = rw e (omega (arith, given));
+      ends = rw e (omega (arith, file.ends));
+      input = input;
+    }
 
 -- a file was read, and its text answered
 pub text_does : (c : Command) (name : List ℕ) (given last : List Told) (before after : Outside) (text : List ℕ) (answer : Result (Unit {0}) Fault) →
     names_of c ≡ name ∷ [] →
-    AreTold (before.shelf.texts name) text → AnswersOn c given last (text ∷ []) before.streams after.streams answer → FileRead name before.shelf after.shelf →
+    AreTold (before.shelf.texts name) text → AnswersOn c given last (text ∷ []) before.streams after.streams answer → FileRead c name before.shelf after.shelf →
     ((other : List ℕ) → after.shelf.faults other ≡ before.shelf.faults other) → Does c given last before after answer
 text_does c name given last before after text answer e told h file same = record {
   files = text ∷ [];
@@ -80,12 +89,12 @@ text_does c name given last before after text answer e told h file same = record
   spared = h.spared;
   ends = h.ends;
   blames = record { files = λ _. same; file = λ i. absurd (h.not_file i); others = λ i. absurd (h.not_file i); input = h.input; out = h.out };
-  frugal = frugal c name before after e file h.sparing;
+  frugal = frugal (text ∷ []) c name before after e file h.sparing;
 }
 
 -- the file failed
 pub file_does : (c : Command) (name : List ℕ) (given : List Told) (before after : Outside) → names_of c ≡ name ∷ [] →
-    FileRead name before.shelf after.shelf → Untouched before after → Rose (before.shelf.faults name) (after.shelf.faults name) →
+    FileRead c name before.shelf after.shelf → Untouched before after → Rose (before.shelf.faults name) (after.shelf.faults name) →
     ((other : List ℕ) → after.shelf.faults other ≤ one_more (before.shelf.faults other)) → Does c given given before after (Err fault.File)
 file_does c name given before after e file none rose once = record {
   files = left_of (before.shelf.texts name) ∷ [];
@@ -100,14 +109,14 @@ file_does c name given before after e file none rose once = record {
     input = no_input_fault before after none (λ i. cc);
     out = no_out_fault before after none (λ i. cc);
   };
-  frugal = frugal c name before after e file (none_read before after none);
+  frugal = frugal (left_of (before.shelf.texts name) ∷ []) c name before after e file (none_read _ before after none);
 }
 
 -- a fault that names no object
 inner_does : (c : Command) (name : List ℕ) (given : List Told) (before after : Outside) (text : List ℕ) (f : Fault) → names_of c ≡ name ∷ [] →
     AreTold (before.shelf.texts name) text →
     Ends (record { command = c; files = text ∷ []; given = given; passes = given }) before.streams after.streams (Err f) →
-    FileRead name before.shelf after.shelf → Untouched before after → ((other : List ℕ) → after.shelf.faults other ≡ before.shelf.faults other) →
+    FileRead c name before.shelf after.shelf → Untouched before after → ((other : List ℕ) → after.shelf.faults other ≡ before.shelf.faults other) →
     (failed f ≡ Err fault.File → ⊥) → (failed f ≡ Err fault.Input → ⊥) → (failed f ≡ Err fault.Output → ⊥) → Does c given given before after (Err f)
 inner_does c name given before after text f e told ends file none same not_file not_input not_out = record {
   files = text ∷ [];
@@ -122,35 +131,45 @@ inner_does c name given before after text f e told ends file none same not_file 
     input = no_input_fault before after none not_input;
     out = no_out_fault before after none not_out;
   };
-  frugal = frugal c name before after e file (none_read before after none);
+  frugal = frugal (text ∷ []) c name before after e file (none_read _ before after none);
 }
 
 -- memory ran out before a text was there
-pub memory_does : (c : Command) (name : List ℕ) (given : List Told) (before after : Outside) → names_of c ≡ name ∷ [] → FileRead name before.shelf after.shelf →
+pub memory_does : (c : Command) (name : List ℕ) (given : List Told) (before after : Outside) → names_of c ≡ name ∷ [] →
+    FileRead c name before.shelf after.shelf →
     Untouched before after →
     ((other : List ℕ) → after.shelf.faults other ≡ before.shelf.faults other) → Does c given given before after (Err fault.NoMemory)
 memory_does c name given before after e file none same =
-    inner_does c name given before after (left_of (before.shelf.texts name)) fault.NoMemory e (left_told (before.shelf.texts name)) (inr (none_written before after none)) file none same (λ i. cc)
+    inner_does c name given before after (left_of (before.shelf.texts name)) fault.NoMemory e (left_told (before.shelf.texts name))
+    (inr (none_written before after none)) file none same (λ i. cc)
     (λ i. cc) (λ i. cc)
 
+-- a target past the largest limit is past its own
+past_its_own : (edition : Edition) (count : ℕ) → written_limit < count → most_of (of_target edition) < count
+unfolding text_limit written_limit
+past_its_own Two count h = omega (arith, h)
+past_its_own Three count h = h
+
 -- a text that is too long
-long_refused : (kind : CommandKind) (flags : Flags) (name text : List ℕ) → text_limit < length text →
+long_refused : (kind : CommandKind) (flags : Flags) (name text : List ℕ) → text_most (command_on kind flags name) (edition_for (text ∷ [])) < length text →
     Refuses (command_on kind flags name) (text ∷ []) fault.TextTooLong
 long_refused Compile flags name text h = too_long h
 long_refused Run flags name text h = too_long h
 long_refused Pre flags name text h = too_long h
 long_refused Check flags name text h = too_long h
-long_refused Exec flags name text h = too_long h
+long_refused Exec flags name text h = too_long (past_its_own (edition_for (text ∷ [])) (length text) h)
 long_refused Prove flags name text h = too_long h
 
-pub long_does : (kind : CommandKind) (flags : Flags) (name : List ℕ) (given : List Told) (before after : Outside) →
-    IfSome (before.shelf.texts name) (λ text. text_limit < length text) →
-    FileRead name before.shelf after.shelf → Untouched before after → ((other : List ℕ) → after.shelf.faults other ≡ before.shelf.faults other) →
+pub long_does : (kind : CommandKind) (flags : Flags) (name : List ℕ) (given : List Told) (before after : Outside)
+    (file : FileRead (command_on kind flags name) name before.shelf after.shelf) →
+    IfSome (before.shelf.texts name) (λ text. file.limit < length text) →
+    Untouched before after → ((other : List ℕ) → after.shelf.faults other ≡ before.shelf.faults other) →
     Does (command_on kind flags name) given given before after (Err fault.TextTooLong)
-long_does kind flags name given before after long file none same =
-    let text = long_text (before.shelf.texts name) long in
+long_does kind flags name given before after file long none same =
+    let text = long_text file.limit (before.shelf.texts name) long in
+    let past = subst (λ n. n < length text.0) (file.is (text.0 ∷ [])) text.2 in
     inner_does (command_on kind flags name) name given before after text.0 fault.TextTooLong (one_name kind flags name) text.1
-    (long_refused kind flags name text.0 text.2, none_written before after none) file none same
+    (long_refused kind flags name text.0 past, none_written before after none) file none same
     (λ i. cc) (λ i. cc) (λ i. cc)
 
 -- a command that reads no file
@@ -212,7 +231,7 @@ nothing_answers (Some c) given before =
         file = inl refl;
         given = omega arith;
         ends = omega arith;
-        input = nothing_read before.streams.input;
+        input = nothing_read _ before.streams.input;
       };
     }
 

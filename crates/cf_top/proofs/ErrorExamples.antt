@@ -59,11 +59,11 @@ more-told h = no h.whole
     no (inr (e, f)) = let l : 6 ≡ 5 = ap length e in omega (arith, l)
 
 -- ---- inputs
-short-line : IsShort true (Some (codes "1\n"))
+short-line : IsShort (Some input_limit) true (Some (codes "1\n"))
 unfolding input_limit
 short-line = (codes "1\n", refl, omega arith)
 
-line-not_long : IsLong true (Some (codes "1\n")) → ⊥
+line-not_long : IsLong (Some input_limit) true (Some (codes "1\n")) → ⊥
 unfolding input_limit
 line-not_long h = no h.0 h.1 h.2
   where
@@ -71,14 +71,14 @@ line-not_long h = no h.0 h.1 h.2
     no bytes e l = let same : codes "1\n" ≡ bytes = cc e in let few : 16777216 < 2 = subst (λ b. 16777216 < length b) (sym same) l in omega (arith, few)
 
 -- an untold input is neither, and one that is not read is short
-untold-not_short : IsShort true None → ⊥
+untold-not_short : IsShort (Some input_limit) true None → ⊥
 untold-not_short h = cc (h.1)
 
-untold-not_long : IsLong true None → ⊥
+untold-not_long : IsLong (Some input_limit) true None → ⊥
 untold-not_long h = cc (h.1)
 
-unread-short : IsShort false None
+unread-short : IsShort (Some input_limit) false None
 unread-short = tt
 
-unread-not_long : IsLong false (Some (codes "1\n")) → ⊥
+unread-not_long : IsLong (Some input_limit) false (Some (codes "1\n")) → ⊥
 unread-not_long h = h

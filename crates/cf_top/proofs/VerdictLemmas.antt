@@ -1,17 +1,18 @@
 -- How a call ends where nothing outside failed.
-use Rattle.std.proofs.Common.{◌≡◌, ◌∙◌, inl, inr, sym, ap, subst, refl, ℕ, ◌≤◌, ◌<◌, Bool, true, false, List, [], ◌∷◌, ◌++◌, length, map, Option, Some, None, arith, append-nil, length-append}
+use Rattle.std.proofs.Common.{◌≡◌, ◌∙◌, inl, inr, sym, ap, subst, refl, ℕ, ◌+◌, Bool, true, false, List, [], ◌∷◌, ◌++◌, length, map, Option, Some, None, arith, append-nil, length-append}
 use Rattle.std.specs.Prelude.{◌⊎◌, Result, Ok, Err, IfSome, IsSomeAnd, OnOk, OnErr, Contains}
 use Rattle.cf_io.specs.Causes.{Rose}
-use Rattle.cf_io.specs.Limits.{input_limit}
+use Rattle.cf_io.specs.Limits.{IsWithin, IsPast}
 use Rattle.cf_io.specs.Seen.{SinkSeen}
 use Rattle.cf_pass.specs.Passes.{Told}
-use Rattle.cf_words.specs.Commands.{Command}
+use Rattle.cf_words.specs.Commands.{Command, compile, prove}
 use Rattle.cf_answer.specs.Commands.{names_of, reads_input}
 use Rattle.cf_answer.specs.Ends.{Job, Reads, IsReadUp, Wrote, Ends, Does, Answers}
+use Rattle.cf_answer.specs.Limits.{input_most}
 use Rattle.cf_answer.specs.Outside.{Outside, Streams, AreTold, AreTexts}
 use Rattle.cf_answer.specs.Refusals.{Refuses, IsAccepted}
 use Rattle.cf_answer.specs.Statuses.{fault_status, status_of}
-use Rattle.cf_top.specs.Top.{IsShort, IsLong, IsComplete, Completes, TopAnswer}
+use Rattle.cf_top.specs.Top.{IsShort, IsLong, IsOverfull, IsComplete, Completes, TopAnswer}
 use Rattle.cf_answer.specs.declared.fault.Fault.{Fault}
 use Rattle.cf_answer.specs.declared.fault.Fault.TheVariants as fault
 use Rattle.cf_answer.specs.declared.status.Status.{Status}
@@ -34,24 +35,38 @@ texts_same texts (n ∷ names) (f ∷ files) (o ∷ other) e h =
     rw (texts_same texts names files other more h.1, same) refl
 
 -- what was read of an input that is told
-read_all : (reading : Bool) (old new : Option (List ℕ)) (front : List ℕ) → Reads reading old new front → IsReadUp reading new → length front ≤ input_limit →
-    IsLong reading old → ⊥
-read_all false old new front r up few long = long
-read_all true None new front r up few (bytes, is, many) = cc
-read_all true (Some xs) None front r up few long = r
-read_all true (Some xs) (Some ys) front r up few (bytes, is, many) =
+within_not_past : (most : Option ℕ) (count : ℕ) → IsWithin most count → IsPast most count → ⊥
+within_not_past None count few many = many
+within_not_past (Some most) count few many = omega (arith, few, many)
+
+past_more : (most : Option ℕ) (count more : ℕ) → IsPast most count → IsPast most (count + more)
+past_more None count more many = many
+past_more (Some most) count more many = omega (arith, many)
+
+none_past : (most : Option ℕ) → IsPast most 0 → ⊥
+none_past None many = many
+none_past (Some most) many = omega (arith, many)
+
+read_all : (most : Option ℕ) (reading : Bool) (old new : Option (List ℕ)) (front : List ℕ) → Reads reading old new front → IsReadUp reading new →
+    IsWithin most (length front) → IsLong most reading old → ⊥
+read_all most false old new front r up few long = long
+read_all most true None new front r up few (bytes, is, many) = cc
+read_all most true (Some xs) None front r up few long = r
+read_all most true (Some xs) (Some ys) front r up few (bytes, is, many) =
     let same : xs ≡ bytes = cc in
     let whole : bytes ≡ front = sym same ∙ r ∙ rw (up, append-nil) refl in
-    omega (arith, few, subst (λ v. input_limit < length v) whole many)
+    within_not_past most (length front) few (subst (λ v. IsPast most (length v)) whole many)
 
-read_past : (reading : Bool) (old new : Option (List ℕ)) (front : List ℕ) → Reads reading old new front → input_limit < length front → IsShort reading old → ⊥
-read_past false old new front r many short = let none : front ≡ [] = r.1 in omega (arith, subst (λ v. input_limit < length v) none many)
-read_past true None new front r many (bytes, is, few) = cc
-read_past true (Some xs) None front r many short = r
-read_past true (Some xs) (Some ys) front r many (bytes, is, few) =
+read_past : (most : Option ℕ) (reading : Bool) (old new : Option (List ℕ)) (front : List ℕ) → Reads reading old new front → IsPast most (length front) →
+    IsShort most reading old → ⊥
+read_past most false old new front r many short = let none : front ≡ [] = r.1 in none_past most (subst (λ v. IsPast most (length v)) none many)
+read_past most true None new front r many (bytes, is, few) = cc
+read_past most true (Some xs) None front r many short = r
+read_past most true (Some xs) (Some ys) front r many (bytes, is, few) =
     let same : xs ≡ bytes = cc in
     let whole : bytes ≡ front ++ ys = sym same ∙ r in
-    omega (arith, many, length-append front ys, subst (λ v. length v ≤ input_limit) whole few)
+    within_not_past most (length (front ++ ys)) (subst (λ v. IsWithin most (length v)) whole few)
+    (subst (IsPast most) (sym (length-append front ys)) (past_more most (length front) (length ys) many))
 
 -- how a call ends where no file failed
 data Settled (command : Command) (files : List (List ℕ)) (input : Option (List ℕ)) (status : Status) : Type 0 where
@@ -59,8 +74,9 @@ data Settled (command : Command) (files : List (List ℕ)) (input : Option (List
   input_failed : IsAccepted command files → status ≡ Input → Settled command files input status
   out_failed : IsAccepted command files → status ≡ Output → Settled command files input status
   stopped : (f : Fault) → Refuses command files f → status ≡ fault_status f → Settled command files input status
-  finished : IsAccepted command files → (IsLong (reads_input command) input → ⊥) → status ≡ Done → Settled command files input status
-  overlong : IsAccepted command files → (IsShort (reads_input command) input → ⊥) → status ≡ InputLong → Settled command files input status
+  finished : IsAccepted command files → (IsLong (input_most files) (reads_input command) input → ⊥) → status ≡ Done → Settled command files input status
+  overfull : IsAccepted command files → IsOverfull command files status → Settled command files input status
+  overlong : IsAccepted command files → (IsShort (input_most files) (reads_input command) input → ⊥) → status ≡ InputLong → Settled command files input status
 
 wrote_accepted : (job : Job) (before after : Streams) (Took : Option (List ℕ) → Option (List ℕ) → List ℕ → Type 0) (front : List ℕ) (ls : List (List ℕ))
     (end : List ℕ) →
@@ -71,10 +87,15 @@ settled_by : (job : Job) (before after : Streams) (status : Status) (answer : Re
     status ≡ status_of answer → (status ≡ File → ⊥) →
     Settled job.command job.files before.input.left status
 settled_by job before after status (Ok done) h is nf =
-    finished (wrote_accepted job before after _ _ _ _ h.3) (read_all (reads_input job.command) before.input.left after.input.left h.0 h.3.read h.1 h.2) is
+    finished (wrote_accepted job before after _ _ _ _ h.3)
+    (read_all (input_most job.files) (reads_input job.command) before.input.left after.input.left h.0 h.3.read h.1 h.2) is
 settled_by job before after status (Err fault.Input) h is nf = input_failed (wrote_accepted job before after _ _ _ _ h.3) is
 settled_by job before after status (Err fault.InputTooLong) h is nf =
-    overlong (wrote_accepted job before after _ _ _ _ h.2) (read_past (reads_input job.command) before.input.left after.input.left h.0 h.2.read h.1) is
+    overlong (wrote_accepted job before after _ _ _ _ h.2)
+    (read_past (input_most job.files) (reads_input job.command) before.input.left after.input.left h.0 h.2.read h.1) is
+settled_by job before after status (Err fault.OutputTooLong) h is nf =
+    overfull (owed_accepted job.command job.files job.given job.passes [] h.0 h.1)
+    (record { is = is; given = job.given; passes = job.passes; text = h.0; owed = h.1; past = h.2 })
 settled_by job before after status (Err fault.Output) h is nf = out_failed (wrote_accepted job before after _ _ _ _ h.3) is
 settled_by job before after status (Err fault.NoMemory) h is nf = no_memory is
 settled_by job before after status (Err fault.File) h is nf = absurd (nf is)
@@ -87,26 +108,37 @@ when_refused command files input status (input_failed a is) f h = absurd (a f h)
 when_refused command files input status (out_failed a is) f h = absurd (a f h)
 when_refused command files input status (stopped g i is) f h = inl (is ∙ refused_alike command files g f i h)
 when_refused command files input status (finished a n is) f h = absurd (a f h)
+when_refused command files input status (overfull a o) f h = absurd (a f h)
 when_refused command files input status (overlong a n is) f h = absurd (a f h)
 
 when_short : (command : Command) (files : List (List ℕ)) (input : Option (List ℕ)) (status : Status) → Settled command files input status →
     IsAccepted command files → (status ≡ Input → ⊥) → (status ≡ Output → ⊥) →
-    IsShort (reads_input command) input → (status ≡ Done) ⊎ (status ≡ NoMemory)
-when_short command files input status (no_memory is) a ni nout short = inr is
+    IsShort (input_most files) (reads_input command) input → (status ≡ Done) ⊎ (status ≡ NoMemory) ⊎ IsOverfull command files status
+when_short command files input status (no_memory is) a ni nout short = inr (inl is)
+when_short command files input status (overfull b o) a ni nout short = inr (inr o)
 when_short command files input status (input_failed b is) a ni nout short = absurd (ni is)
 when_short command files input status (out_failed b is) a ni nout short = absurd (nout is)
 when_short command files input status (stopped g i is) a ni nout short = absurd (a g i)
 when_short command files input status (finished b n is) a ni nout short = inl is
 when_short command files input status (overlong b n is) a ni nout short = absurd (n short)
 
+-- a command with a limit of what it writes reads no input
+reads_no_limit : (command : Command) (files : List (List ℕ)) (reading : Bool) (input : Option (List ℕ)) (status : Status) → reads_input command ≡ reading →
+    IsOverfull command files status → IsLong (input_most files) reading input → ⊥
+reads_no_limit command files false input status e o long = long
+reads_no_limit (compile flags file) files true input status e o long = cc
+reads_no_limit (prove file) files true input status e o long = cc
+reads_no_limit command files true input status e o long = o.past
+
 when_long : (command : Command) (files : List (List ℕ)) (input : Option (List ℕ)) (status : Status) → Settled command files input status →
     IsAccepted command files → (status ≡ Input → ⊥) → (status ≡ Output → ⊥) →
-    IsLong (reads_input command) input → (status ≡ InputLong) ⊎ (status ≡ NoMemory)
+    IsLong (input_most files) (reads_input command) input → (status ≡ InputLong) ⊎ (status ≡ NoMemory)
 when_long command files input status (no_memory is) a ni nout long = inr is
 when_long command files input status (input_failed b is) a ni nout long = absurd (ni is)
 when_long command files input status (out_failed b is) a ni nout long = absurd (nout is)
 when_long command files input status (stopped g i is) a ni nout long = absurd (a g i)
 when_long command files input status (finished b n is) a ni nout long = absurd (n long)
+when_long command files input status (overfull b o) a ni nout long = absurd (reads_no_limit command files (reads_input command) input status refl o long)
 when_long command files input status (overlong b n is) a ni nout long = inl is
 
 completed : (command : Command) (files : List (List ℕ)) (input : Option (List ℕ)) (status : Status) → Settled command files input status →
@@ -134,7 +166,8 @@ completes None given before after errors_before errors_after status t = tt
 completes (Some c) given before after errors_before errors_after status t = does_complete c given t.passes before after status t.answer t.answers t.is
 
 -- words that are no command are refused, or memory ran out
-pub no_command : (command : Option Command) (given last : List Told) (before after : Outside) (answer : Result (Unit {0}) Fault) (status : Status) → command ≡ None →
+pub no_command : (command : Option Command) (given last : List Told) (before after : Outside) (answer : Result (Unit {0}) Fault) (status : Status) →
+    command ≡ None →
     Answers command given last before after answer → status ≡ status_of answer → (status ≡ Usage) ⊎ (status ≡ NoMemory)
 no_command None given last before after answer status none h is =
     elim h.0 [ inl usage ↦ inl (is ∙ ap status_of usage) | inr memory ↦ inr (is ∙ ap status_of memory) ]

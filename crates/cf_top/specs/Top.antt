@@ -1,21 +1,24 @@
 -- What the top call answers and tells.
-use Rattle.std.specs.Prelude.{◌≡◌, ◌⊎◌, ◌≤◌, ◌<◌, ℕ, Bool, true, false, List, length, map, Option, Some, Result}
+use Rattle.std.specs.Prelude.{◌≡◌, ◌⊎◌, ℕ, Bool, true, false, List, [], ◌++◌, length, map, Option, Some, Result}
 use Rattle.std.specs.Io.KnownBytes.{Appends}
 use Rattle.cf_io.specs.Bytes.{TookPrefix}
 use Rattle.cf_io.specs.Causes.{one_more}
-use Rattle.cf_io.specs.Limits.{input_limit}
+use Rattle.cf_io.specs.Limits.{IsWithin, IsPast}
 use Rattle.cf_io.specs.Seen.{SinkSeen}
 use Rattle.cf_pass.specs.Passes.{Told}
 use Rattle.cf_words.specs.Commands.{Command}
-use Rattle.cf_answer.specs.Commands.{names_of, reads_input}
+use Rattle.cf_answer.specs.Commands.{names_of, reads_input, output_most}
 use Rattle.cf_answer.specs.Ends.{Answers}
+use Rattle.cf_answer.specs.Limits.{edition_for, input_most}
 use Rattle.cf_answer.specs.Outside.{Outside}
+use Rattle.cf_answer.specs.Owed.{Owes}
+use Rattle.cf_answer.specs.Passes.{closing}
 use Rattle.cf_answer.specs.Refusals.{Refuses, IsAccepted}
 use Rattle.cf_answer.specs.Statuses.{fault_status, status_of}
 use Rattle.cf_answer.specs.Texts.{answer_line}
 use Rattle.cf_answer.specs.declared.fault.Fault.{Fault}
 use Rattle.cf_answer.specs.declared.status.Status.{Status}
-use Rattle.cf_answer.specs.declared.status.Status.TheVariants.{Done, File, Input, Output, InputLong, NoMemory}
+use Rattle.cf_answer.specs.declared.status.Status.TheVariants.{Done, File, Input, Output, Limit, InputLong, NoMemory}
 
 -- it took a prefix of these bytes, and all of them unless it failed, once
 pub record IsTold (before after : SinkSeen) (text : List ℕ) : Type 0 where
@@ -31,22 +34,31 @@ pub record TopAnswer (command : Option Command) (given : List Told) (before afte
     pub answers : Answers command given passes before after answer
     pub told : IsTold errors_before errors_after (answer_line answer)
 
--- an input that is read is told, and within the limit; told, and past it
-abbrev pub IsShort : Bool → Option (List ℕ) → Type 0
-IsShort true input = (bytes : List ℕ) × (input ≡ Some bytes) × (length bytes ≤ input_limit)
-IsShort false input = Unit {0}
+-- an input that is read is told, and within its limit; told, and past it
+abbrev pub IsShort : Option ℕ → Bool → Option (List ℕ) → Type 0
+IsShort most true input = (bytes : List ℕ) × (input ≡ Some bytes) × IsWithin most (length bytes)
+IsShort most false input = Unit {0}
 
-abbrev pub IsLong : Bool → Option (List ℕ) → Type 0
-IsLong true input = (bytes : List ℕ) × (input ≡ Some bytes) × (input_limit < length bytes)
-IsLong false input = ⊥
+abbrev pub IsLong : Option ℕ → Bool → Option (List ℕ) → Type 0
+IsLong most true input = (bytes : List ℕ) × (input ≡ Some bytes) × IsPast most (length bytes)
+IsLong most false input = ⊥
+
+-- what it is to write on these files is past the limit of what is written
+pub record IsOverfull (command : Command) (files : List (List ℕ)) (status : Status) : Type 0 where
+  pub is : status ≡ Limit
+  pub given : List Told
+  pub passes : List Told
+  pub text : List ℕ
+  pub owed : Owes command files given passes [] text
+  pub past : IsPast (output_most command (edition_for files)) (length (text ++ closing command passes))
 
 -- A command that is refused on its files has the status of that fault, whatever the input and `out` did. One that is not is done where neither of them
--- failed, unless the input is too long. Or memory ran out.
+-- failed, unless the input is too long, or what it is to write. Or memory ran out.
 pub record IsComplete (command : Command) (files : List (List ℕ)) (input : Option (List ℕ)) (status : Status) : Type 0 where
   pub refused : (f : Fault) → Refuses command files f → (status ≡ fault_status f) ⊎ (status ≡ NoMemory)
-  pub done : IsAccepted command files → (status ≡ Input → ⊥) → (status ≡ Output → ⊥) → IsShort (reads_input command) input →
-      (status ≡ Done) ⊎ (status ≡ NoMemory)
-  pub too_long : IsAccepted command files → (status ≡ Input → ⊥) → (status ≡ Output → ⊥) → IsLong (reads_input command) input →
+  pub done : IsAccepted command files → (status ≡ Input → ⊥) → (status ≡ Output → ⊥) → IsShort (input_most files) (reads_input command) input →
+      (status ≡ Done) ⊎ (status ≡ NoMemory) ⊎ IsOverfull command files status
+  pub too_long : IsAccepted command files → (status ≡ Input → ⊥) → (status ≡ Output → ⊥) → IsLong (input_most files) (reads_input command) input →
       (status ≡ InputLong) ⊎ (status ≡ NoMemory)
 
 -- the same where the texts of its files are told and no file failed

@@ -1,9 +1,10 @@
 //! The top call.
 ghost use Rattle.std.specs.Prelude.{◌≡◌, ◌⊎◌, ◌≤◌, ◌<◌, ◌^◌, ◌∷◌, ℕ, List, [], false, length, map, string_bytes, None, IfSome, IsSomeAnd, IsErrOf, Contains};
 ghost use Rattle.cf_io.specs.Causes.{Rose};
-ghost use Rattle.cf_answer.specs.Commands.{names_of, reads_input};
+ghost use Rattle.cf_words.specs.declared.command.Flags.{Flags};
+ghost use Rattle.cf_answer.specs.Commands.{names_of, reads_input, text_most};
 ghost use Rattle.cf_answer.specs.Ends.{Answers, AnswersOn, Does, IsInOrder};
-ghost use Rattle.cf_answer.specs.Limits.{text_limit};
+ghost use Rattle.cf_answer.specs.Limits.{edition_for};
 ghost use Rattle.cf_answer.specs.Outside.{outside, streams};
 ghost use Rattle.cf_answer.specs.Statuses.{status_of as the_status_of, IsEarly};
 ghost use Rattle.cf_top.specs.Top.{Completes, TopAnswer};
@@ -11,9 +12,9 @@ ghost use Rattle.cf_words.specs.Commands.{command_on};
 ghost use Rattle.cf_words.specs.Words.{command_of, may_be_read};
 
 use cf_answer::{
-    Fault, Status, longest_text, run_source, run_target, status_of, tell, verify_files,
-    write_blocks, write_checks, write_help, write_preconditions, write_target, write_version,
-    write_workload,
+    Fault, Status, longest_text, longest_written, run_source, run_target, status_of, tell,
+    verify_files, write_blocks, write_checks, write_help, write_preconditions, write_target,
+    write_version, write_workload,
 };
 use cf_io::{ReadFault, Shelf, Sink, Source, read_text};
 use cf_pass::Pass;
@@ -122,11 +123,26 @@ fn answer_file<F: Shelf, I: Source, O: Sink>(
     ensures unasked { reads_input (command_on command.now.kind command.now.flags command.now.file.now) ≡ false → input.new ≡ input.old }
     ensures unwritten { IsEarly (the_status_of result) → out.new ≡ out.old }
 {
-    match read_text(alloc, shelf, command.file, longest_text()) {
+    match read_text(alloc, shelf, command.file, longest_of(command.kind)) {
         Ok(text) => answer_text(alloc, command, &text, input, out, passes),
         Err(ReadFault::Failed) => Err(Fault::File),
         Err(ReadFault::TooLong) => Err(Fault::TextTooLong),
         Err(ReadFault::NoMemory) => Err(Fault::NoMemory),
+    }
+}
+
+// The most bytes of a file that a command takes. Which edition a target is of is known only when it was read.
+fn longest_of(kind: CommandKind) -> usize
+    ensures is { (flags : Flags) (file : List ℕ) (files : List (List ℕ)) → result ≡ text_most (command_on kind flags file) (edition_for files) }
+    ensures small { result < 2 ^ 31 }
+{
+    match kind {
+        CommandKind::Exec => longest_written(),
+        CommandKind::Compile
+        | CommandKind::Run
+        | CommandKind::Pre
+        | CommandKind::Check
+        | CommandKind::Prove => longest_text(),
     }
 }
 
@@ -139,7 +155,7 @@ fn answer_text<I: Source, O: Sink>(
     out: &mut O,
     passes: &mut Vec<Box<dyn Pass>>,
 ) -> Result<(), Fault>
-    requires short { length text.now ≤ text_limit }
+    requires short { length text.now ≤ text_most (command_on command.now.kind command.now.flags command.now.file.now) (edition_for (text.now ∷ [])) }
     requires small { length text.now < 2 ^ 31 }
     ensures answers { AnswersOn (command_on command.now.kind command.now.flags command.now.file.now)
         (map (λ p. told p) passes.old.items) (map (λ p. told p) passes.new.items) (text.now ∷ [])

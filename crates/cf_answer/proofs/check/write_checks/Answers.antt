@@ -10,5 +10,5 @@ returns-in_err-text-clause-answers g c =
 
 pub returns-clause-answers : goal.returns-clause-answers
 returns-clause-answers g c =
-    λ file given input. written_answers _ given given _ _ _ input _ _ _ refl refl c.in_ok-text.ensures (c.deref.ensures.value ∙ sym (append-nil _))
+    λ file given input. written_answers _ given given _ _ _ input _ _ _ refl (λ e. refl) refl c.in_ok-text.ensures (c.deref.ensures.value ∙ sym (append-nil _))
     c.write_text.ensures.all c.write_text.ensures.prefix c.write_text.ensures.fault c.write_text.ensures.count

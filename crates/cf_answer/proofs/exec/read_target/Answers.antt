@@ -1,25 +1,12 @@
-use Rattle.std.proofs.Common.{ap, inl, Err}
-use Rattle.cf_target.specs.Spelling.{target_tree}
-use Rattle.cf_answer.proofs.TargetLemmas.{typed_verdict}
-use Rattle.cf_answer.proofs.TextLemmas.{target_in, no_target, target_untyped}
+use Rattle.std.proofs.Common.{◌≡◌, ◌∙◌, ◌<◌, inl, ap, length, arith}
+use Rattle.cf_lex.specs.Editions.{edition_of}
+use Rattle.cf_answer.specs.Limits.{of_target, most_of}
+use Rattle.cf_answer.specs.Refusals.{too_long}
 use Rattle.cf_answer.proofs.exec.read_target.Goals as goal
 
-pub returns-in-Ok-check_target : goal.returns-in-Ok-check_target
-returns-in-Ok-check_target c =
-    let list = c.in_ok-list.list in
-    typed_verdict c.args.text.now c.in-Ok.raw _ c.in-Ok-check_target.ensures.same c.in-Ok-check_target.ensures.typed
-    (target_in _ c.args.text.now (target_tree c.in-Ok.raw) list.list.items list.end c.edition_of.ensures.is c.in_ok-list.ensures.tokens c.in-Ok.ensures.found)
-
-pub returns-in-Err-BadTarget : goal.returns-in-Err-BadTarget
-returns-in-Err-BadTarget c =
-    let list = c.in_ok-list.list in
-    inl (target_untyped c.args.text.now (target_tree c.in-Ok.raw)
-    (target_in _ c.args.text.now (target_tree c.in-Ok.raw) list.list.items list.end c.edition_of.ensures.is c.in_ok-list.ensures.tokens c.in-Ok.ensures.found)
-    (c.in-Err-BadTarget.ensures.bad (ap Err c.in-Err-BadTarget.field-0-is)))
-
-pub returns-in-Err-Syntax : goal.returns-in-Err-Syntax
-returns-in-Err-Syntax c =
-    let is = c.in-Err-Syntax.field-0-is in
-    let list = c.in_ok-list.list in
-    rw is (inl (no_target _ c.args.text.now list.list.items list.end c.in-Err-Syntax.place c.edition_of.ensures.is c.in_ok-list.ensures.tokens
-    (rw is at c.in-Err-Syntax.ensures.only) (rw is at c.in-Err-Syntax.ensures.place) (rw is at c.in-Err-Syntax.ensures.exact)))
+pub returns-then-text-longest_target : goal.returns-then-text-longest_target
+returns-then-text-longest_target c =
+    let most : c.longest_target.result ≡ most_of (of_target (edition_of c.args.text.now)) =
+    c.longest_target.ensures.is ∙ ap (λ e. most_of (of_target e)) c.edition_of-edition.ensures.is in
+    let past : most_of (of_target (edition_of c.args.text.now)) < length c.args.text.now = omega (arith, c.if-text-longest_target.true, most) in
+    inl (too_long past)

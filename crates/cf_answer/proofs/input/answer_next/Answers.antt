@@ -2,16 +2,16 @@ use Rattle.std.proofs.Common.{arith, rules}
 use Rattle.std.proofs.lemmas.Grind.{common_steps}
 use Rattle.std.proofs.lemmas.Result.{err_from_is_err_and}
 use Rattle.cf_answer.specs.Steps.{answerer_of}
-use Rattle.cf_answer.proofs.StepLemmas.{runs_input, stopped_next}
+use Rattle.cf_answer.proofs.StepLemmas.{failed_next, stopped_next}
 use Rattle.cf_answer.proofs.input.answer_next.Goals as goal
 
 pub returns-in-Err-clause-fault : goal.returns-in-Err-clause-fault
-returns-in-Err-clause-fault g c = λ left old total r few. runs_input (answerer_of c.args.answerer.now) left _ _ _ old _ total r
-    (omega (arith, few, c.requires.some)) c.in-Err.ensures.bytes
+returns-in-Err-clause-fault g c = λ most left old total r few.
+    failed_next (answerer_of c.args.answerer.now) _ _ _ _ _ c.requires.some c.in-Err.ensures.bytes most left old total r few
 
 pub returns-in_err-answer_piece-clause-fault : goal.returns-in_err-answer_piece-clause-fault
 returns-in_err-answer_piece-clause-fault g c =
     let p = err_from_is_err_and c.from_residual.result c.from_residual.ensures.1 in
-    rw (p.1, p.2) (λ left old total r most.
+    rw (p.1, p.2) (λ most left old total r few.
     stopped_next (answerer_of c.args.answerer.now) _ _ _ _ _ _ _ _ c.in-Ok.ensures.bytes.0 (first_of (search rules, grind (arith, common_steps)))
-    c.in_err-answer_piece.ensures.fault c.in_err-answer_piece.ensures.some left old total r most)
+    c.in_err-answer_piece.ensures.fault c.in_err-answer_piece.ensures.some most left old total r few)

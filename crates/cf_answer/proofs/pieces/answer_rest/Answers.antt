@@ -14,4 +14,4 @@ returns-clause-some g c =
     c.in_ok-finish.ensures.ok
 
 pub returns-in_err-finish-clause-some : goal.returns-in_err-finish-clause-some
-returns-in_err-finish-clause-some g c = λ bytes first h few. rest_none (answerer_of c.args.answerer.now) _ bytes first _ h few
+returns-in_err-finish-clause-some g c = λ most bytes first h few. rest_none (answerer_of c.args.answerer.now) most _ bytes first _ h few

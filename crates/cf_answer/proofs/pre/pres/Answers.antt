@@ -1,13 +1,19 @@
-use Rattle.std.proofs.Common.{arith, rules, ◌≡◌, get_or}
-use Rattle.cf_answer.specs.Owed.{IsPreOf}
-use Rattle.cf_answer.proofs.WrittenLemmas.{written_step, written_done}
+use Rattle.std.proofs.Common.{◌∙◌, arith, map}
+use Rattle.cf_form.specs.ToldView.{told_choose, truth_at}
+use Rattle.cf_answer.proofs.BranchLemmas.{truths_of}
+use Rattle.cf_answer.proofs.WrittenLemmas.{pres_next, pres_last}
 use Rattle.cf_answer.proofs.pre.pres.Goals as goal
 
 pub loop-choose-preserved : goal.loop-choose-preserved
 loop-choose-preserved c =
-    let item : c.choose-item.result ≡ get_or c.args.chooses.now c.loop-choose.choose-index c.choose-item.result = search rules in
-    λ qs s. written_step IsPreOf qs c.args.chooses.now c.loop-choose.choose-index c.choose-item.result _ _ s (omega arith) item (c.loop-choose.invariant qs s)
-    c.in_ok-put_pre.ensures
+    let told = c.loop-choose.invariant.1 in (
+      λ qs s. pres_next (map told_choose c.args.told.now) qs c.args.chooses.now c.loop-choose.choose-index c.choose-item.result
+          (truths_of c.loop-choose.coming.left.now) (truths_of c.next-branch.new.self.left.now) (map truth_at c.next-branch.result.now)
+          c.loop-choose.text.items _ s c.loop-choose-test.true c.choose-item.is (rw told at c.next-branch.ensures.truths)
+          (rw told at c.next-branch.ensures.left) (c.loop-choose.invariant.0 qs s) c.in_ok-put_pre.ensures,
+      c.next-branch.ensures.told ∙ told,
+    )
 
 pub returns : goal.returns
-returns c = λ qs s. written_done IsPreOf qs c.args.chooses.now c.loop-choose.choose-index _ s (omega arith) (c.loop-choose.invariant qs s)
+returns c = λ qs s. pres_last (map told_choose c.args.told.now) qs c.args.chooses.now c.loop-choose.choose-index _ _ s (omega arith)
+    (c.loop-choose.invariant.0 qs s)

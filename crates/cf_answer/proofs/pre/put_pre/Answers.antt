@@ -1,6 +1,8 @@
-use Rattle.std.proofs.Common.{◌≡◌, ◌∙◌, ap}
+use Rattle.std.proofs.Common.{◌≡◌, ◌∙◌, ap, map}
 use Rattle.cf_tree.specs.DefView.{pre_tree}
+use Rattle.cf_form.specs.ToldView.{truth_at}
 use Rattle.cf_tree.specs.Params.{names_of}
+use Rattle.cf_answer.specs.Branches.{valued}
 use Rattle.cf_emit.specs.Printed.{pre_text}
 use Rattle.cf_answer.proofs.PreLemmas.{pre_of}
 use Rattle.cf_answer.proofs.pre.put_pre.Goals as goal
@@ -9,7 +11,8 @@ pub returns : goal.returns
 returns c =
     let choose = c.args.choose.now in
     let names = c.deref.ensures.value ∙ c.in_ok-names.ensures in
-    let printed : c.in_ok-printed.printed.items ≡ pre_text choose.choose.number (names_of choose.choose.scope.now) (pre_tree c.in_ok-pre.pre) =
+    let printed : c.in_ok-printed.printed.items ≡ pre_text choose.choose.number (valued 0 (names_of choose.choose.scope.now) (map truth_at c.args.branch.now))
+    (pre_tree c.in_ok-pre.pre) =
     c.in_ok-printed.ensures ∙ ap (λ ns. pre_text choose.choose.number ns (pre_tree c.in_ok-pre.pre)) names in
-    λ q s. pre_of q choose _ _ _ _ s c.in_ok-pre.ensures.arms c.in_ok-pre.ensures.holds printed
+    λ q s. pre_of q (map truth_at c.args.branch.now) choose _ _ _ _ s c.in_ok-pre.ensures.arms c.in_ok-pre.ensures.holds printed
     (rw c.deref-2.ensures.value at c.in_ok-extend_from_slice.ensures.items)

@@ -1,4 +1,5 @@
-use Rattle.std.proofs.Common.{◌≡◌, Some}
+use Rattle.std.proofs.Common.{◌≡◌, map, Some}
+use Rattle.cf_form.specs.ToldView.{truth_at}
 use Rattle.cf_build.specs.Chooses.{limit_of}
 use Rattle.cf_tree.specs.ChooseView.{choose_tree}
 use Rattle.cf_build.proofs.SolveLists.{refused_alone}
@@ -12,9 +13,10 @@ prove-requires c = record {
   numbered = c.requires.positive;
 }
 
-pub returns-in_ok-extend_from_slice-in-Ok-clause-block : goal.returns-in_ok-extend_from_slice-in-Ok-clause-block
-returns-in_ok-extend_from_slice-in-Ok-clause-block c =
-    proved_adds (choose_tree c.args.choose.now) c.in-Ok.block.items c.args.text.now.items _ c.in-Ok.ensures
+pub returns-in-Ok-clause-block : goal.returns-in-Ok-clause-block
+returns-in-Ok-clause-block c =
+    proved_adds (choose_tree c.args.choose.now, map truth_at c.args.branch.now) c.in_ok-head.head.truths.items c.in-Ok.block.items c.args.text.now.items _
+    c.in_ok-head.ensures.is c.in_ok-head.ensures.spelled c.in-Ok.ensures
     (rw c.deref.ensures.value at c.in_ok-extend_from_slice-in-Ok.ensures.items)
 
 pub returns-in-Err-Refused-clause-refused : goal.returns-in-Err-Refused-clause-refused

@@ -8,10 +8,10 @@ use Rattle.cf_answer.proofs.steps.read_steps.Goals as goal
 pub returns-in-Ok : goal.returns-in-Ok
 returns-in-Ok c =
     let list = c.in_ok-list.list in
-    let tokens = c.in_ok-list.ensures.tokens in record {
+    let tokens = c.in_ok-list.ensures.tokens c.args.edition c.requires.short in record {
       spelled = (list.list.items, list.end, tokens, c.in-Ok.ensures.found);
       within = spelled_within c.in-Ok.found.list.items (c.in-Ok.ensures.spelled c.in_ok-list.ensures.within);
-      few = few_steps (block_trees c.in-Ok.found) c.args.text.now list c.in-Ok.ensures.few tokens;
+      few = few_steps c.args.edition (block_trees c.in-Ok.found) c.args.text.now list c.in-Ok.ensures.few tokens;
     }
 
 pub returns-in-Err-Syntax : goal.returns-in-Err-Syntax
@@ -21,6 +21,7 @@ returns-in-Err-Syntax c =
     inl (
       steps_fault.Syntax c.in-Err-Syntax.place,
       refl,
-      no_tree list.list.items list.end c.in-Err-Syntax.place c.in_ok-list.ensures.tokens (rw is at c.in-Err-Syntax.ensures.only)
+      no_tree list.list.items list.end c.in-Err-Syntax.place (c.in_ok-list.ensures.tokens c.args.edition c.requires.short)
+          (rw is at c.in-Err-Syntax.ensures.only)
           (record { dead = rw is at c.in-Err-Syntax.ensures.place; exact = rw is at c.in-Err-Syntax.ensures.exact }),
     )

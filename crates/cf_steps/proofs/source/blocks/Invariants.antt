@@ -5,4 +5,4 @@ use Rattle.cf_steps.proofs.source.blocks.Given as goal
 
 abbrev pub invariant-loop : goal.invariant-loop
 invariant-loop l =
-    blocks_of l.limit (length l.fn.tokens - l.counter) (map block_tree l.done.items) l.rest ≡ blocks_of l.limit (length l.fn.tokens) [] l.fn.tokens
+    blocks_of l.edition l.limit (length l.fn.tokens - l.counter) (map block_tree l.done.items) l.rest ≡ blocks_of l.edition l.limit (length l.fn.tokens) [] l.fn.tokens

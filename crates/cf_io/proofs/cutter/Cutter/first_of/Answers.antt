@@ -6,9 +6,9 @@ use Rattle.cf_io.proofs.LineLemmas.{ended-is}
 use Rattle.cf_io.proofs.cutter.Cutter.first_of.Goals as goal
 
 pub returns : goal.returns
-returns c = λ bytes s.
+returns c = λ most bytes s.
     let stood = rw (← c.self.view_is) at s in
     let kept = rw (← c.deref.ensures.value) at stood.line in
-    let found = rw c.within-within.ensures at (c.in_ok-rest.ensures.lines (rest_of bytes) kept) in
+    let found = rw c.within-front.ensures at (c.in_ok-rest.ensures (rest_of bytes) kept) in
     ap (λ ls. c.first_ended.new.out.items ++ map (line_of c.args.limit) ls) (ended-is c.in_ok-rest.rest.now) ∙ found
-    ∙ ap (λ ls. c.args.lines.now.items ++ ls) (lines_found c.args.limit c.args.input c.args.self.now.total bytes c.args.piece.now s.total)
+    ∙ ap (λ ls. c.args.lines.now.items ++ ls) (lines_found c.args.limit most c.self.inside.room bytes c.args.piece.now stood.room)
