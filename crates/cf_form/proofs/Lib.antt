@@ -15,6 +15,9 @@ mod CountLaws
 mod ExpansionExamples
 pub mod ExpansionLaws
 pub mod ExpansionTypes
+mod FloorChoose
+mod FloorForms
+mod FloorLaws
 pub mod FoldLaws
 mod FoldSteps
 mod FormSteps

@@ -3,6 +3,7 @@ pub mod Atoms
 pub mod Branches
 pub mod Counted
 pub mod Expansion
+pub mod Floor
 pub mod Folding
 pub mod FormAnswers
 pub mod FormShapes

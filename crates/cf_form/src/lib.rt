@@ -14,6 +14,7 @@ mod copy;
 mod count;
 mod expansion;
 mod fault;
+mod floor;
 mod formed;
 mod formed_late;
 mod forming;
