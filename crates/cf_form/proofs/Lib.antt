@@ -51,6 +51,7 @@ pub mod PolarityLaws
 pub mod PolarityTypes
 mod RelationExamples
 pub mod SaidBy
+mod SaturatedLaws
 pub mod ScopeLaws
 pub mod SourceLaws
 pub mod SourceLinear

@@ -19,6 +19,7 @@ pub mod Occurs
 pub mod Passed
 pub mod Polarity
 pub mod Relations
+pub mod Saturated
 pub mod SourceChooses
 pub mod Telling
 pub mod Told

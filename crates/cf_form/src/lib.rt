@@ -25,6 +25,7 @@ mod made;
 mod occurs;
 mod plain;
 mod polarity;
+mod saturated;
 mod telling;
 mod told;
 mod truths;
