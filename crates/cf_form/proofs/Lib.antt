@@ -18,6 +18,7 @@ pub mod ExpansionTypes
 mod FloorChoose
 mod FloorForms
 mod FloorLaws
+mod FloorSteps
 pub mod FoldLaws
 mod FoldSteps
 mod FormSteps

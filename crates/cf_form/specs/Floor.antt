@@ -1,5 +1,5 @@
 -- Floors: what a relation that is written out weighs at least, told without expanding it. They serve the answer that a weight stands still at the greatest
--- number, where the relation itself would not fit into memory.
+-- number, where the relation itself would not fit into memory. These words serve only the proofs of private functions.
 use Rattle.std.specs.Prelude.{ℕ, ◌≡◌, ◌≤◌, None, List, [], ◌∷◌, map}
 use Rattle.cf_tree.specs.RelSize.{term_size, rel_size}
 use Rattle.cf_tree.specs.declared.base.Base.{Base}

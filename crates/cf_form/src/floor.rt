@@ -123,12 +123,21 @@ pub(crate) fn truth_in(floor: Floor) -> Result<u64, NoMemory>
 }
 
 // The floor of an operation over parts with these.
+#[tactic(auto, using(crate::proofs::FloorSteps::have_numbers, crate::proofs::FloorSteps::have_truths))]
 fn binary(op: BinOp, left: Floor, right: Floor) -> Result<Floor, NoMemory>
     ensures { IfOk result (λ f. HaveFloor op left right f) }
 {
     match left {
-        Floor::Number(left) => over_numbers(op, left, number_in(right)?),
-        Floor::Truth(left) => over_truths(op, left, truth_in(right)?),
+        Floor::Number(left) => {
+            let right = number_in(right)?;
+            let floor = over_numbers(op, left, right)?;
+            Ok(floor)
+        }
+        Floor::Truth(left) => {
+            let right = truth_in(right)?;
+            let floor = over_truths(op, left, right)?;
+            Ok(floor)
+        }
         Floor::Other => Err(NoMemory),
     }
 }

@@ -46,6 +46,8 @@ fn first_heavy(alloc: Global, defs: &[Def]) -> Result<usize, NoMemory>
     Err(NoMemory)
 }
 
+// Whether the form of a body is known to be so heavy.
+#[tactic(auto, using(crate::proofs::FloorSteps::heavy_top))]
 fn heavy(alloc: Global, before: &[Def], expr: &Expr) -> Result<(), NoMemory>
     ensures { IfOk result (λ _. IsHeavy (calls_of (map def_tree before.now)) (2 ^ 64 - 1) (expr_tree expr.now)) }
 {
@@ -124,29 +126,39 @@ fn given_floor(
 fn all_narrow(alloc: Global, defs: &[Def]) -> Result<(), NoMemory>
     ensures { IfOk result (λ _. AreNarrow (map def_tree defs.now)) }
 {
+    let mut room = Room::new();
     for index in 0..defs.len() {
-        narrow(alloc, &defs[..index], &defs[index].body)?;
+        narrow(alloc, &mut room, &defs[..index], &defs[index].body)?;
     }
     Ok(())
 }
 
 #[tactic(auto, using(crate::proofs::SaturatedLaws::heavy_narrow))]
-fn narrow(alloc: Global, before: &[Def], expr: &Expr) -> Result<(), NoMemory>
+fn narrow(
+    alloc: Global,
+    room: &mut Room,
+    before: &[Def],
+    expr: &Expr,
+) -> Result<(), NoMemory>
     ensures { IfOk result (λ _. IsNarrow before.now expr.now) }
 {
     match choose_floor(alloc, before, expr) {
         Ok(_) => Ok(()),
-        Err(_) => narrow_within(alloc, before, expr),
+        Err(_) => narrow_within(alloc, room, before, expr),
     }
 }
 
 #[tactic(auto, using(crate::proofs::SaturatedLaws::within_narrow))]
-fn narrow_within(alloc: Global, before: &[Def], expr: &Expr) -> Result<(), NoMemory>
+fn narrow_within(
+    alloc: Global,
+    room: &mut Room,
+    before: &[Def],
+    expr: &Expr,
+) -> Result<(), NoMemory>
     ensures { IfOk result (λ _. IsNarrow before.now expr.now) }
 {
-    let mut room = Room::new();
     let mut all = Vec::new(alloc);
-    collect(alloc, &mut room, before, expr, &mut all)?;
+    collect(alloc, room, before, expr, &mut all)?;
     match first_passed(&all) {
         None => Ok(()),
         Some(_) => Err(NoMemory),
