@@ -91,7 +91,7 @@ module _ (calls : Calls) (n : ℕ) (scope : List Param) (outputs hidden : List B
   with_floor holds_always r h k = k
   with_floor (holds_where p) r h k =
       let f = first_truth h.0 (expanded calls (variables_from 0 (bases_of scope)) p)
-          (h.1.stands (variables_from 0 (bases_of scope)) (variables_stand 0 (bases_of scope))) in
+      (h.1.stands (variables_from 0 (bases_of scope)) (variables_stand 0 (bases_of scope))) in
       and_floor w h.0 w (truth_in (first_part (expanded calls (variables_from 0 (bases_of scope)) p))) r (omega arith) f k
 
   relation_floor : HasTruth w wide.relation
@@ -167,7 +167,7 @@ heavy_first xs d ys h light =
     let count = formed_length [] xs in
     let number : 0 + length (formed_behind [] xs) ≡ length xs = omega (arith, count) in
     let found = above_at weight_in 1000000 small (formed_def xs d) (λ k. h.weight (λ f. slice_index k f) (length d.params)) 0 [] (formed_behind [] xs)
-        (formed_behind (xs ++ d ∷ []) ys) light in
+    (formed_behind (xs ++ d ∷ []) ys) light in
     ap (λ ds. first_above 1000000 0 (weights ds)) (formed_split [] xs d ys) ∙ found ∙ ap (λ n. Some (n, 2 ^ 64 - 1)) number
 
 -- ---- lists of chooses

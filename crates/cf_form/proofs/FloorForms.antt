@@ -127,8 +127,10 @@ module _ (calls : Calls) (env : List Floor) where
   truth_has t = record { stands = λ parts h. truth_stands t }
 
   pub var_has : (x : ℕ) (f : Floor) → x < length env → f ≡ get_or env x f → HasFloor calls env (expr_var x) f
-  var_has x f l e = record { stands = λ parts h. subst (λ g. Stands g (slice_index_or parts x (of_number (wide_lit (pos 0))))) (sym e)
-      (floor_at env parts x f (of_number (wide_lit (pos 0))) h l) }
+  var_has x f l e = record {
+    stands = λ parts h. subst (λ g. Stands g (slice_index_or parts x (of_number (wide_lit (pos 0))))) (sym e)
+        (floor_at env parts x f (of_number (wide_lit (pos 0))) h l);
+  }
 
   -- of an operand whose floor f is of a number
   module _ (f : Floor) (w : ℕ) (a : ExprTree) (e : f ≡ Number w) (h : HasFloor calls env a f) where
@@ -153,32 +155,40 @@ module _ (calls : Calls) (env : List Floor) where
     divides_has j = record { stands = number_by (Truth w) (λ ps. of_truth (wide_divides j (number_in (first_part ps))) ∷ []) (divides_part j w) }
 
   pub not_has : (f : Floor) (w : ℕ) (a : ExprTree) → f ≡ Truth w → HasFloor calls env a f → HasFloor calls env (expr_not a) (Truth w)
-  not_has f w a e h = record { stands = λ parts k. one_by (λ ps. IsOne (Truth w) (of_truth (wide_not (truth_in (first_part ps))) ∷ [])) (Truth w)
-      (expanded calls parts a) (subst (λ x. IsOne x (expanded calls parts a)) e (h.stands parts k)) (not_part w) }
+  not_has f w a e h = record {
+    stands = λ parts k. one_by (λ ps. IsOne (Truth w) (of_truth (wide_not (truth_in (first_part ps))) ∷ [])) (Truth w)
+        (expanded calls parts a) (subst (λ x. IsOne x (expanded calls parts a)) e (h.stands parts k)) (not_part w);
+  }
 
   pub binary_has : (op : BinOp) (a b : ExprTree) (f g n : Floor) → HasFloor calls env a f → HasFloor calls env b g → HaveFloor op f g n →
       HasFloor calls env (expr_binary op a b) n
-  binary_has op a b f g n h k law = record { stands = λ parts s.
-      one_by (λ ps. IsOne n (binary_part op (first_part ps) (first_part (expanded calls parts b)) ∷ [])) f (expanded calls parts a) (h.stands parts s)
-      (λ p u. one_by (λ qs. IsOne n (binary_part op p (first_part qs) ∷ [])) g (expanded calls parts b) (k.stands parts s) (λ q v. law.stands p q u v)) }
+  binary_has op a b f g n h k law = record {
+    stands = λ parts s.
+        one_by (λ ps. IsOne n (binary_part op (first_part ps) (first_part (expanded calls parts b)) ∷ [])) f (expanded calls parts a) (h.stands parts s)
+        (λ p u. one_by (λ qs. IsOne n (binary_part op p (first_part qs) ∷ [])) g (expanded calls parts b) (k.stands parts s) (λ q v. law.stands p q u v));
+  }
 
   pub let_has : (n : ℕ) (a b : ExprTree) (f g : Floor) (inner : List Floor) → inner ≡ env ++ f ∷ [] → HasFloor calls env a f → HasFloor calls inner b g →
       HasFloor calls env (expr_let n a b) g
-  let_has n a b f g inner e h m = let k : HasFloor calls (env ++ f ∷ []) b g = subst (λ fs. HasFloor calls fs b g) e m in record { stands = λ parts s.
-      one_by (λ ps. IsOne g (expanded calls (parts ++ ps) b)) f (expanded calls parts a) (h.stands parts s)
-      (λ p u. k.stands (parts ++ p ∷ []) (floors_joined env parts f p s u)) }
+  let_has n a b f g inner e h m = let k : HasFloor calls (env ++ f ∷ []) b g = subst (λ fs. HasFloor calls fs b g) e m in record {
+    stands = λ parts s.
+        one_by (λ ps. IsOne g (expanded calls (parts ++ ps) b)) f (expanded calls parts a) (h.stands parts s)
+        (λ p u. k.stands (parts ++ p ∷ []) (floors_joined env parts f p s u));
+  }
 
   pub if_has : (n u v w : ℕ) (f g i : Floor) (t a b : ExprTree) → f ≡ Truth u → g ≡ Truth v → i ≡ Truth w → n ≤ u + v + w → HasFloor calls env t f →
       HasFloor calls env a g → HasFloor calls env b i → HasFloor calls env (expr_if t a b) (Truth n)
   if_has n u v w f g i t a b ef eg ei l h0 k0 m0 =
       let h : HasFloor calls env t (Truth u) = subst (HasFloor calls env t) ef h0 in
       let k : HasFloor calls env a (Truth v) = subst (HasFloor calls env a) eg k0 in
-      let m : HasFloor calls env b (Truth w) = subst (HasFloor calls env b) ei m0 in record { stands = λ parts s.
-      one_by (λ ts. IsOne (Truth n) (if_parts (truth_in (first_part ts)) (expanded calls parts a) (expanded calls parts b))) (Truth u)
-      (expanded calls parts t) (h.stands parts s)
-      (λ c x. one_by (λ ps. IsOne (Truth n) (if_parts (truth_in c) ps (expanded calls parts b))) (Truth v) (expanded calls parts a) (k.stands parts s)
-      (λ p y. one_by (λ qs. IsOne (Truth n) (if_parts (truth_in c) (p ∷ []) qs)) (Truth w) (expanded calls parts b) (m.stands parts s)
-      (λ q z. if_stands c p q x y z))) }
+      let m : HasFloor calls env b (Truth w) = subst (HasFloor calls env b) ei m0 in record {
+        stands = λ parts s.
+            one_by (λ ts. IsOne (Truth n) (if_parts (truth_in (first_part ts)) (expanded calls parts a) (expanded calls parts b))) (Truth u)
+            (expanded calls parts t) (h.stands parts s)
+            (λ c x. one_by (λ ps. IsOne (Truth n) (if_parts (truth_in c) ps (expanded calls parts b))) (Truth v) (expanded calls parts a) (k.stands parts s)
+            (λ p y. one_by (λ qs. IsOne (Truth n) (if_parts (truth_in c) (p ∷ []) qs)) (Truth w) (expanded calls parts b) (m.stands parts s)
+            (λ q z. if_stands c p q x y z)));
+      }
     where
       if_stands : (c p q : Part) → Stands (Truth u) c → Stands (Truth v) p → Stands (Truth w) q → Stands (Truth n) (if_part (truth_in c) p q)
       if_stands (of_truth c) (of_truth p) (of_truth q) x y z = if_floor n u v w c p q l x y z

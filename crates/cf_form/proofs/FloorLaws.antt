@@ -122,7 +122,6 @@ not_floor w p h = record {
   fails = λ truths. either_size (is_plain p) w (failing truths p) (holding truths p) (h.fails truths) (h.holds truths);
 }
 
-
 module _ (n v w : ℕ) (p q : WideRel) (l : n ≤ v + w) (h : HasTruth v p) (g : HasTruth w q) where
   both_narrow : earlier (passed p) (passed q) ≡ None
   both_narrow = rw (h.narrow, g.narrow) refl

@@ -134,12 +134,7 @@ fn all_narrow(alloc: Global, defs: &[Def]) -> Result<(), NoMemory>
 }
 
 #[tactic(auto, using(crate::proofs::SaturatedLaws::heavy_narrow))]
-fn narrow(
-    alloc: Global,
-    room: &mut Room,
-    before: &[Def],
-    expr: &Expr,
-) -> Result<(), NoMemory>
+fn narrow(alloc: Global, room: &mut Room, before: &[Def], expr: &Expr) -> Result<(), NoMemory>
     ensures { IfOk result (λ _. IsNarrow before.now expr.now) }
 {
     match choose_floor(alloc, before, expr) {
