@@ -1,5 +1,5 @@
 //! Functions whose weight stands still at the greatest number, told without forming them.
-ghost use Rattle.std.specs.Prelude.{◌≡◌, ◌-◌, ◌^◌, None, false, IfOk, map};
+ghost use Rattle.std.specs.Prelude.{◌≡◌, ◌<◌, ◌-◌, ◌^◌, None, false, IfOk, length, map};
 ghost use Rattle.cf_tree.specs.DefView.{def_tree};
 ghost use Rattle.cf_tree.specs.ExprView.{expr_tree, given_expr};
 ghost use Rattle.cf_program.specs.Size.{weights, first_above};
@@ -35,7 +35,8 @@ pub(crate) fn saturated(alloc: Global, defs: &[Def]) -> Result<u32, NoMemory>
 // The first function that is known to be so heavy.
 #[tactic(auto, using(crate::proofs::SaturatedLaws::heavy_at))]
 fn first_heavy(alloc: Global, defs: &[Def]) -> Result<usize, NoMemory>
-    ensures { IfOk result (λ i. IsHeavyAt defs.now i) }
+    ensures below { IfOk result (λ i. i < length defs.now) }
+    ensures heavy { IfOk result (λ i. IsHeavyAt defs.now i) }
 {
     for index in 0..defs.len() {
         match heavy(alloc, &defs[..index], &defs[index].body) {
