@@ -176,7 +176,7 @@ module _ (calls : Calls) (env : List Floor) where
         (λ p u. k.stands (parts ++ p ∷ []) (floors_joined env parts f p s u));
   }
 
-  pub if_has : (n u v w : ℕ) (f g i : Floor) (t a b : ExprTree) → f ≡ Truth u → g ≡ Truth v → i ≡ Truth w → n ≤ u + v + w → HasFloor calls env t f →
+  pub if_has : (n u v w : ℕ) (f g i : Floor) (t a b : ExprTree) → f ≡ Truth u → g ≡ Truth v → i ≡ Truth w → n ≤ u + v + u + w → HasFloor calls env t f →
       HasFloor calls env a g → HasFloor calls env b i → HasFloor calls env (expr_if t a b) (Truth n)
   if_has n u v w f g i t a b ef eg ei l h0 k0 m0 =
       let h : HasFloor calls env t (Truth u) = subst (HasFloor calls env t) ef h0 in

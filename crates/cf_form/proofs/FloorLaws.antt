@@ -174,10 +174,12 @@ module _ (n v w : ℕ) (p q : WideRel) (l : n ≤ v + w + v + w) (h : HasTruth v
         let a = h.holds truths in let b = g.holds truths in let c = h.fails truths in let d = g.fails truths in omega (arith, l, a, b, c, d);
   }
 
-module _ (n u v w : ℕ) (c p q : WideRel) (l : n ≤ u + v + w) (k : HasTruth u c) (h : HasTruth v p) (g : HasTruth w q) where
+module _ (n u v w : ℕ) (c p q : WideRel) (l : n ≤ u + v + u + w) (k : HasTruth u c) (h : HasTruth v p) (g : HasTruth w q) where
   pub if_floor : HasTruth n (wide_if_truth c p q)
   if_floor = record {
     narrow = rw (k.narrow, h.narrow, g.narrow) refl;
-    holds = λ truths. let x = k.holds truths in let a = h.holds truths in let b = g.holds truths in omega (arith, l, x, a, b);
-    fails = λ truths. let x = k.holds truths in let a = h.fails truths in let b = g.fails truths in omega (arith, l, x, a, b);
+    holds = λ truths.
+        let x = k.holds truths in let y = k.fails truths in let a = h.holds truths in let b = g.holds truths in omega (arith, l, x, y, a, b);
+    fails = λ truths.
+        let x = k.holds truths in let y = k.fails truths in let a = h.fails truths in let b = g.fails truths in omega (arith, l, x, y, a, b);
   }

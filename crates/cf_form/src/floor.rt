@@ -36,20 +36,8 @@ pub(crate) fn floor_of(
         Expr::Lit(_) => Ok(Floor::Number(1)),
         Expr::Truth(_) => Ok(Floor::Truth(1)),
         Expr::Var(x) => variable(before, env, *x),
-        Expr::Neg(a) => {
+        Expr::Neg(a) | Expr::Abs(a) | Expr::Div { of: a, .. } | Expr::Mod { of: a, .. } => {
             let weight = number_in(floor_of(alloc, before, env, a)?)?;
-            Ok(Floor::Number(weight))
-        }
-        Expr::Abs(a) => {
-            let weight = number_in(floor_of(alloc, before, env, a)?)?;
-            Ok(Floor::Number(weight))
-        }
-        Expr::Div { of, .. } => {
-            let weight = number_in(floor_of(alloc, before, env, of)?)?;
-            Ok(Floor::Number(weight))
-        }
-        Expr::Mod { of, .. } => {
-            let weight = number_in(floor_of(alloc, before, env, of)?)?;
             Ok(Floor::Number(weight))
         }
         Expr::Divides { of, .. } => {
@@ -70,7 +58,7 @@ pub(crate) fn floor_of(
             let test = truth_in(floor_of(alloc, before, env, test)?)?;
             let yes = truth_in(floor_of(alloc, before, env, yes)?)?;
             let no = truth_in(floor_of(alloc, before, env, no)?)?;
-            Ok(Floor::Truth(sum_of_three(test, yes, no)))
+            Ok(Floor::Truth(sum_of_four(test, yes, test, no)))
         }
         Expr::Let { value, body, .. } => {
             let value = floor_of(alloc, before, env, value)?;
@@ -78,16 +66,7 @@ pub(crate) fn floor_of(
             let body = floor_of(alloc, before, &inner, body)?;
             Ok(body)
         }
-        Expr::SetOf(_)
-        | Expr::Tuple(_)
-        | Expr::Chain { .. }
-        | Expr::Min(_)
-        | Expr::Max(_)
-        | Expr::Card(_)
-        | Expr::Call { .. }
-        | Expr::Choose { .. }
-        | Expr::ChooseWhere { .. }
-        | Expr::Match { .. } => Err(NoMemory),
+        _ => Err(NoMemory),
     }
 }
 
@@ -112,7 +91,7 @@ fn number_in(floor: Floor) -> Result<u64, NoMemory>
     }
 }
 
-// The weight of a relation.
+/// The weight of a relation.
 pub(crate) fn truth_in(floor: Floor) -> Result<u64, NoMemory>
     ensures { IfOk result (λ w. floor ≡ floors.Truth w) }
 {
@@ -152,16 +131,11 @@ fn over_numbers(op: BinOp, left: u64, right: u64) -> Result<Floor, NoMemory>
         BinOp::Sub => Ok(Floor::Number(weight)),
         BinOp::Mul => Ok(Floor::Number(weight)),
         BinOp::Compare(_) => Ok(Floor::Truth(weight)),
-        BinOp::And
-        | BinOp::Or
-        | BinOp::Implies
-        | BinOp::Union
-        | BinOp::Inter
-        | BinOp::Diff
-        | BinOp::Subset => Err(NoMemory),
+        _ => Err(NoMemory),
     }
 }
 
+// Each side of `==` and `!=` of relations is written out twice.
 #[tactic(auto, using(crate::proofs::FloorForms::both, crate::proofs::FloorForms::either, crate::proofs::FloorForms::implied, crate::proofs::FloorForms::matched))]
 fn over_truths(op: BinOp, left: u64, right: u64) -> Result<Floor, NoMemory>
     ensures { IfOk result (λ f. HaveFloor op (floors.Truth left) (floors.Truth right) f) }
@@ -170,14 +144,8 @@ fn over_truths(op: BinOp, left: u64, right: u64) -> Result<Floor, NoMemory>
         BinOp::And => Ok(Floor::Truth(sum(left, right))),
         BinOp::Or => Ok(Floor::Truth(sum(left, right))),
         BinOp::Implies => Ok(Floor::Truth(sum(left, right))),
-        BinOp::Compare(_) => Ok(Floor::Truth(twice_the_sum(left, right))),
-        BinOp::Add
-        | BinOp::Sub
-        | BinOp::Mul
-        | BinOp::Union
-        | BinOp::Inter
-        | BinOp::Diff
-        | BinOp::Subset => Err(NoMemory),
+        BinOp::Compare(_) => Ok(Floor::Truth(sum_of_four(left, right, left, right))),
+        _ => Err(NoMemory),
     }
 }
 
@@ -187,17 +155,10 @@ fn sum(v: u64, w: u64) -> u64
     v.saturating_add(w)
 }
 
-fn sum_of_three(u: u64, v: u64, w: u64) -> u64
-    ensures { result ≤ u + v + w }
+fn sum_of_four(u: u64, v: u64, w: u64, x: u64) -> u64
+    ensures { result ≤ u + v + w + x }
 {
-    u.saturating_add(v).saturating_add(w)
-}
-
-// As each side of `==` and `!=` of relations is written out twice.
-fn twice_the_sum(v: u64, w: u64) -> u64
-    ensures { result ≤ v + w + v + w }
-{
-    v.saturating_add(w).saturating_add(v).saturating_add(w)
+    u.saturating_add(v).saturating_add(w).saturating_add(x)
 }
 
 // These floors, and one more behind them.
