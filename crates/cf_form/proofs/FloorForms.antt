@@ -133,7 +133,7 @@ module _ (calls : Calls) (env : List Floor) where
   }
 
   -- of an operand whose floor f is of a number
-  module _ (f : Floor) (w : ℕ) (a : ExprTree) (e : f ≡ Number w) (h : HasFloor calls env a f) where
+  module _ (f : Floor) (w : ℕ) (a : ExprTree) (h : HasFloor calls env a f) (e : f ≡ Number w) where
     number_by : (g : Floor) (to : List Part → List Part) → ((p : Part) → Stands (Number w) p → IsOne g (to (p ∷ []))) → (parts : List Part) →
         AreFloors env parts → IsOne g (to (expanded calls parts a))
     number_by g to law parts k =
@@ -154,8 +154,8 @@ module _ (calls : Calls) (env : List Floor) where
     pub divides_has : (j : ℤ) → HasFloor calls env (expr_divides j a) (Truth w)
     divides_has j = record { stands = number_by (Truth w) (λ ps. of_truth (wide_divides j (number_in (first_part ps))) ∷ []) (divides_part j w) }
 
-  pub not_has : (f : Floor) (w : ℕ) (a : ExprTree) → f ≡ Truth w → HasFloor calls env a f → HasFloor calls env (expr_not a) (Truth w)
-  not_has f w a e h = record {
+  pub not_has : (f : Floor) (w : ℕ) (a : ExprTree) → HasFloor calls env a f → f ≡ Truth w → HasFloor calls env (expr_not a) (Truth w)
+  not_has f w a h e = record {
     stands = λ parts k. one_by (λ ps. IsOne (Truth w) (of_truth (wide_not (truth_in (first_part ps))) ∷ [])) (Truth w)
         (expanded calls parts a) (subst (λ x. IsOne x (expanded calls parts a)) e (h.stands parts k)) (not_part w);
   }
@@ -168,17 +168,17 @@ module _ (calls : Calls) (env : List Floor) where
         (λ p u. one_by (λ qs. IsOne n (binary_part op p (first_part qs) ∷ [])) g (expanded calls parts b) (k.stands parts s) (λ q v. law.stands p q u v));
   }
 
-  pub let_has : (n : ℕ) (a b : ExprTree) (f g : Floor) (inner : List Floor) → inner ≡ env ++ f ∷ [] → HasFloor calls env a f → HasFloor calls inner b g →
+  pub let_has : (n : ℕ) (a b : ExprTree) (f g : Floor) (inner : List Floor) → HasFloor calls env a f → HasFloor calls inner b g → inner ≡ env ++ f ∷ [] →
       HasFloor calls env (expr_let n a b) g
-  let_has n a b f g inner e h m = let k : HasFloor calls (env ++ f ∷ []) b g = subst (λ fs. HasFloor calls fs b g) e m in record {
+  let_has n a b f g inner h m e = let k : HasFloor calls (env ++ f ∷ []) b g = subst (λ fs. HasFloor calls fs b g) e m in record {
     stands = λ parts s.
         one_by (λ ps. IsOne g (expanded calls (parts ++ ps) b)) f (expanded calls parts a) (h.stands parts s)
         (λ p u. k.stands (parts ++ p ∷ []) (floors_joined env parts f p s u));
   }
 
-  pub if_has : (n u v w : ℕ) (f g i : Floor) (t a b : ExprTree) → f ≡ Truth u → g ≡ Truth v → i ≡ Truth w → n ≤ u + v + u + w → HasFloor calls env t f →
-      HasFloor calls env a g → HasFloor calls env b i → HasFloor calls env (expr_if t a b) (Truth n)
-  if_has n u v w f g i t a b ef eg ei l h0 k0 m0 =
+  pub if_has : (n u v w : ℕ) (f g i : Floor) (t a b : ExprTree) → HasFloor calls env t f → HasFloor calls env a g → HasFloor calls env b i → f ≡ Truth u →
+      g ≡ Truth v → i ≡ Truth w → n ≤ u + v + u + w → HasFloor calls env (expr_if t a b) (Truth n)
+  if_has n u v w f g i t a b h0 k0 m0 ef eg ei l =
       let h : HasFloor calls env t (Truth u) = subst (HasFloor calls env t) ef h0 in
       let k : HasFloor calls env a (Truth v) = subst (HasFloor calls env a) eg k0 in
       let m : HasFloor calls env b (Truth w) = subst (HasFloor calls env b) ei m0 in record {

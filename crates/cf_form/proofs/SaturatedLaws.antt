@@ -6,7 +6,7 @@ use Rattle.cf_tree.specs.declared.expr.Def.{Def}
 use Rattle.cf_tree.specs.declared.expr.Expr.{Expr}
 use Rattle.cf_tree.specs.declared.raw.Param.{Param}
 use Rattle.cf_tree.specs.DefView.{DefTree, def_tree}
-use Rattle.cf_tree.specs.ExprTree.{ExprTree, expr_choose_where, GivenExpr, holds_where, at_any}
+use Rattle.cf_tree.specs.ExprTree.{ExprTree, expr_choose_where, GivenExpr, holds_always, holds_where, at_any}
 use Rattle.cf_tree.specs.ExprView.{expr_tree}
 use Rattle.cf_tree.specs.Params.{bases_of}
 use Rattle.cf_program.specs.Size.{weights, first_above}
@@ -21,7 +21,7 @@ use Rattle.cf_form.specs.Floor.{HasFloor, HasGiven, IsHeavy, base_floor}
 use Rattle.cf_form.specs.FormAnswers.{AreNarrow, IsUnformed}
 use Rattle.cf_form.specs.Formed.{formed_defs, wide_choose, has_truths}
 use Rattle.cf_form.specs.Made.{IsPast}
-use Rattle.cf_form.specs.Saturated.{IsHeavyAt, IsNarrow, AreNarrowSo}
+use Rattle.cf_form.specs.Saturated.{HasCondition, IsHeavyAt, IsNarrow, AreNarrowSo}
 use Rattle.cf_form.specs.SourceChooses.{SourceChoose, chooses_in}
 use Rattle.cf_form.specs.Telling.{AreFound, wide_behind}
 use Rattle.cf_form.specs.Told.{first_passed}
@@ -32,28 +32,30 @@ use Rattle.cf_form.proofs.FloorChoose.{choose_heavy, heavy_first, passed_append}
 
 -- ---- one choose
 pub choose_heavy_by : (calls : Calls) (n : ℕ) (scope : List Param) (outputs hidden : List Base) (given : GivenExpr) (rel : ExprTree) (w : ℕ)
-    (inputs all : List Base) (env : List Floor) (f : Floor) → inputs ≡ bases_of scope → has_truths inputs ≡ false →
-    HasGiven calls (map base_floor inputs) given → all ≡ bases_of scope ++ outputs ++ hidden → env ≡ map base_floor all → f ≡ floors.Truth w →
-    HasFloor calls env rel f → IsHeavy calls w (expr_choose_where n scope outputs hidden given rel at_any)
-choose_heavy_by calls n scope outputs hidden given rel w inputs all env f ei plain holds ea ee ef has =
-    let to : env ≡ map base_floor (bases_of scope ++ outputs ++ hidden) = ee ∙ ap (map base_floor) ea in
+    (inputs : List Base) (env : List Floor) (f : Floor) → HasCondition calls (map base_floor inputs) given → HasFloor calls env rel f →
+    inputs ≡ bases_of scope → has_truths inputs ≡ false → env ≡ map base_floor (bases_of scope ++ outputs ++ hidden) → f ≡ floors.Truth w →
+    IsHeavy calls w (expr_choose_where n scope outputs hidden given rel at_any)
+choose_heavy_by calls n scope outputs hidden given rel w inputs env f holds has ei plain to ef =
     choose_heavy calls n scope outputs hidden given rel w
     (subst (λ bs. has_truths bs ≡ false) ei plain)
-    (subst (λ bs. HasGiven calls (map base_floor bs) given) ei holds)
+    (subst (λ bs. HasGiven calls (map base_floor bs) given) ei holds.floor)
     (subst (λ fs. HasFloor calls fs rel (floors.Truth w)) to (subst (HasFloor calls env rel) ef has))
 
-pub given_has : (calls : Calls) (inputs : List Base) (env : List Floor) (p : ExprTree) (f : Floor) (w : ℕ) → env ≡ map base_floor inputs →
-    f ≡ floors.Truth w → HasFloor calls env p f → HasGiven calls (map base_floor inputs) (holds_where p)
-given_has calls inputs env p f w e ef h =
-    (w, subst (λ fs. HasFloor calls fs p (floors.Truth w)) e (subst (HasFloor calls env p) ef h))
+pub always_has : (calls : Calls) (env : List Floor) → HasCondition calls env holds_always
+always_has calls env = record { floor = tt }
+
+pub given_has : (calls : Calls) (inputs : List Base) (env : List Floor) (p : ExprTree) (f : Floor) (w : ℕ) → HasFloor calls env p f →
+    env ≡ map base_floor inputs → f ≡ floors.Truth w → HasCondition calls (map base_floor inputs) (holds_where p)
+given_has calls inputs env p f w h e ef =
+    record { floor = (w, subst (λ fs. HasFloor calls fs p (floors.Truth w)) e (subst (HasFloor calls env p) ef h)) }
 
 -- ---- narrow functions
 pub heavy_narrow : (before : List Def) (e : Expr) (w : ℕ) → IsHeavy (calls_of (map def_tree before)) w (expr_tree e) → IsNarrow before e
 heavy_narrow before e w h = record { none = h.narrow }
 
-pub within_narrow : (before : List Def) (e : Expr) (old new : List DeclaredChoose) → old ≡ [] → AreFound before old new (chooses_in (expr_tree e)) →
+pub within_narrow : (before : List Def) (e : Expr) (old new : List DeclaredChoose) → AreFound before old new (chooses_in (expr_tree e)) → old ≡ [] →
     None ≡ first_passed (map choose_view new) → IsNarrow before e
-within_narrow before e old new empty found none =
+within_narrow before e old new found empty none =
     let here : List WideChoose = map (wide_choose (calls_of (map def_tree before))) (chooses_in (expr_tree e)) in
     let all : map choose_view new ≡ here = found.found ∙ ap (λ qs. map choose_view qs ++ here) empty in
     record { none = sym (none ∙ ap first_passed all) }
@@ -91,18 +93,15 @@ heavy_at ds i d l h = record {
   heavy = h;
 }
 
-pub saturated_is : (ds : List Def) (i f : ℕ) → IsHeavyAt ds i → AreNarrow (map def_tree ds) →
-    first_above 1000000 0 (weights (formed_defs (map def_tree (take i ds)))) ≡ None → f ≡ i →
-    IsUnformed (map def_tree ds) (faults.Weight f (2 ^ 64 - 1))
-saturated_is ds i f h narrow light e =
+pub saturated_is : (ds : List Def) (i f : ℕ) → IsHeavyAt ds i → first_above 1000000 0 (weights (formed_defs (map def_tree (take i ds)))) ≡ None → f ≡ i →
+    first_above 1000000 0 (weights (formed_defs (map def_tree ds))) ≡ Some (f, 2 ^ 64 - 1)
+saturated_is ds i f h light e =
     let before : List DefTree = map def_tree (take i ds) in
     let more : List DefTree = map def_tree (drop (i + 1) ds) in
     let all : before ++ def_tree h.def ∷ more ≡ map def_tree ds = sym (map-append def_tree (take i ds) (h.def ∷ drop (i + 1) ds)) ∙ ap (map def_tree) h.all in
-    let number : length before ≡ f = length-map (take i ds) def_tree ∙ length-take-le i ds (omega (arith, h.below)) ∙ sym e in (
-      narrow,
-      subst (λ ts. first_above 1000000 0 (weights (formed_defs ts)) ≡ Some (f, 2 ^ 64 - 1)) all
-          (heavy_first before (def_tree h.def) more h.heavy light ∙ ap (λ n. Some (n, 2 ^ 64 - 1)) number),
-    )
+    let number : length before ≡ f = length-map (take i ds) def_tree ∙ length-take-le i ds (omega (arith, h.below)) ∙ sym e in
+    subst (λ ts. first_above 1000000 0 (weights (formed_defs ts)) ≡ Some (f, 2 ^ 64 - 1)) all
+    (heavy_first before (def_tree h.def) more h.heavy light ∙ ap (λ n. Some (n, 2 ^ 64 - 1)) number)
 
 -- what is unformed for its weight passes a limit
 pub past_weight : (defs : List DefTree) (f w : ℕ) → IsUnformed defs (faults.Weight f w) → IsPast (formed_defs defs) (faults.Weight f w)

@@ -3,14 +3,21 @@ use Rattle.std.specs.Prelude.{ℕ, ◌≡◌, ◌+◌, ◌-◌, ◌<◌, ◌^◌
 use Rattle.cf_tree.specs.DefView.{def_tree}
 use Rattle.cf_tree.specs.declared.expr.Def.{Def}
 use Rattle.cf_tree.specs.declared.expr.Expr.{Expr}
+use Rattle.cf_tree.specs.ExprTree.{GivenExpr}
 use Rattle.cf_tree.specs.ExprView.{expr_tree}
-use Rattle.cf_form.specs.Floor.{IsHeavy}
+use Rattle.cf_form.specs.declared.floor.Floor.{Floor}
+use Rattle.cf_form.specs.Expansion.{Calls}
+use Rattle.cf_form.specs.Floor.{HasGiven, IsHeavy}
 use Rattle.cf_form.specs.FormAnswers.{AreNarrow}
 use Rattle.cf_form.specs.Formed.{wide_choose}
 use Rattle.cf_form.specs.SourceChooses.{chooses_in}
 use Rattle.cf_form.specs.Telling.{wide_behind}
 use Rattle.cf_form.specs.Told.{first_passed}
 use Rattle.cf_form.specs.Unfolding.{calls_of}
+
+-- the condition of a choose has a floor, if it has a condition
+pub record HasCondition (calls : Calls) (env : List Floor) (given : GivenExpr) : Type 0 where
+  pub floor : HasGiven calls env given
 
 -- the body of function number i is so heavy
 pub record IsHeavyAt (ds : List Def) (i : ℕ) : Type 0 where

@@ -4,10 +4,10 @@ ghost use Rattle.cf_tree.specs.DefView.{def_tree};
 ghost use Rattle.cf_tree.specs.ExprView.{expr_tree, given_expr};
 ghost use Rattle.cf_program.specs.Size.{weights, first_above};
 ghost use Rattle.cf_form.specs.declared.fault.FormFault.TheVariants as faults;
-ghost use Rattle.cf_form.specs.Floor.{HasGiven, IsHeavy, base_floor};
+ghost use Rattle.cf_form.specs.Floor.{IsHeavy, base_floor};
 ghost use Rattle.cf_form.specs.FormAnswers.{AreNarrow, IsUnformed};
 ghost use Rattle.cf_form.specs.Formed.{formed_defs, has_truths as has_truths_of};
-ghost use Rattle.cf_form.specs.Saturated.{IsHeavyAt, IsNarrow};
+ghost use Rattle.cf_form.specs.Saturated.{HasCondition, IsHeavyAt, IsNarrow};
 ghost use Rattle.cf_form.specs.Unfolding.{calls_of};
 
 use crate::choose::{Outline, all_bases, has_truths};
@@ -104,14 +104,14 @@ fn without_truths(inputs: &[Base]) -> Result<(), NoMemory>
     }
 }
 
-#[tactic(auto, using(crate::proofs::SaturatedLaws::given_has))]
+#[tactic(auto, using(crate::proofs::SaturatedLaws::always_has, crate::proofs::SaturatedLaws::given_has))]
 fn given_floor(
     alloc: Global,
     before: &[Def],
     inputs: &[Base],
     given: &Given,
 ) -> Result<(), NoMemory>
-    ensures { IfOk result (λ _. HasGiven (calls_of (map def_tree before.now)) (map base_floor inputs.now) (given_expr given.now)) }
+    ensures { IfOk result (λ _. HasCondition (calls_of (map def_tree before.now)) (map base_floor inputs.now) (given_expr given.now)) }
 {
     match given {
         Given::Always => Ok(()),
