@@ -36,8 +36,20 @@ pub(crate) fn floor_of(
         Expr::Lit(_) => Ok(Floor::Number(1)),
         Expr::Truth(_) => Ok(Floor::Truth(1)),
         Expr::Var(x) => variable(before, env, *x),
-        Expr::Neg(a) | Expr::Abs(a) | Expr::Div { of: a, .. } | Expr::Mod { of: a, .. } => {
+        Expr::Neg(a) => {
             let weight = number_in(floor_of(alloc, before, env, a)?)?;
+            Ok(Floor::Number(weight))
+        }
+        Expr::Abs(a) => {
+            let weight = number_in(floor_of(alloc, before, env, a)?)?;
+            Ok(Floor::Number(weight))
+        }
+        Expr::Div { of, .. } => {
+            let weight = number_in(floor_of(alloc, before, env, of)?)?;
+            Ok(Floor::Number(weight))
+        }
+        Expr::Mod { of, .. } => {
+            let weight = number_in(floor_of(alloc, before, env, of)?)?;
             Ok(Floor::Number(weight))
         }
         Expr::Divides { of, .. } => {

@@ -1,12 +1,12 @@
 use Rattle.std.proofs.Common.{rules, ◌≡◌, ◌∙◌, map, sym, ap, subst}
 use Rattle.cf_tree.specs.declared.expr.Expr.{the_lemmas}
 use Rattle.cf_tree.specs.DefView.{def_tree}
-use Rattle.cf_tree.specs.ExprTree.{expr_neg, expr_not, expr_divides, expr_if, expr_let}
+use Rattle.cf_tree.specs.ExprTree.{expr_neg, expr_not, expr_abs, expr_divides, expr_div, expr_mod, expr_if, expr_let}
 use Rattle.cf_tree.specs.ExprView.{expr_tree}
 use Rattle.cf_form.specs.declared.floor.Floor.TheVariants as floors
 use Rattle.cf_form.specs.Floor.{HasFloor}
 use Rattle.cf_form.specs.Unfolding.{calls_of}
-use Rattle.cf_form.proofs.FloorForms.{neg_has, divides_has, not_has, if_has, let_has}
+use Rattle.cf_form.proofs.FloorForms.{neg_has, abs_has, div_has, mod_has, divides_has, not_has, if_has, let_has}
 use Rattle.cf_form.proofs.floor.+floor_of.Goals as goal
 
 pub returns-in_ok-weight-in-Neg : goal.returns-in_ok-weight-in-Neg
@@ -15,8 +15,35 @@ returns-in_ok-weight-in-Neg t c =
     let tree : expr_tree c.args.expr.now ≡ expr_neg (expr_tree c.in-Neg.a.value) = search (rules, the_lemmas) in
     subst (λ e. HasFloor calls c.args.env.now e (floors.Number c.in_ok-weight-in-Neg.weight)) (sym tree)
     (neg_has calls c.args.env.now c.in_ok-floor_of-in-Neg.field-0 c.in_ok-weight-in-Neg.weight (expr_tree c.in-Neg.a.value)
-    (subst (λ x. HasFloor calls c.args.env.now (expr_tree x) c.in_ok-floor_of-in-Neg.field-0) c.deref-in-Neg.ensures c.in_ok-floor_of-in-Neg.ensures)
+    (subst (λ x. HasFloor calls c.args.env.now (expr_tree x) c.in_ok-floor_of-in-Neg.field-0) c.deref.ensures c.in_ok-floor_of-in-Neg.ensures)
     c.in_ok-weight-in-Neg.ensures)
+
+pub returns-in_ok-weight-in-Abs : goal.returns-in_ok-weight-in-Abs
+returns-in_ok-weight-in-Abs t c =
+    let calls = calls_of (map def_tree c.args.before.now) in
+    let tree : expr_tree c.args.expr.now ≡ expr_abs (expr_tree c.in-Abs.a.value) = search (rules, the_lemmas) in
+    subst (λ e. HasFloor calls c.args.env.now e (floors.Number c.in_ok-weight-in-Abs.weight)) (sym tree)
+    (abs_has calls c.args.env.now c.in_ok-floor_of-in-Abs.field-0 c.in_ok-weight-in-Abs.weight (expr_tree c.in-Abs.a.value)
+    (subst (λ x. HasFloor calls c.args.env.now (expr_tree x) c.in_ok-floor_of-in-Abs.field-0) c.deref-in-Abs.ensures c.in_ok-floor_of-in-Abs.ensures)
+    c.in_ok-weight-in-Abs.ensures)
+
+pub returns-in_ok-weight-in-Div : goal.returns-in_ok-weight-in-Div
+returns-in_ok-weight-in-Div t c =
+    let calls = calls_of (map def_tree c.args.before.now) in
+    let tree : expr_tree c.args.expr.now ≡ expr_div (expr_tree c.in-Div.of.value) c.in-Div.k = search (rules, the_lemmas) in
+    subst (λ e. HasFloor calls c.args.env.now e (floors.Number c.in_ok-weight-in-Div.weight)) (sym tree)
+    (div_has calls c.args.env.now c.in_ok-floor_of-in-Div.field-0 c.in_ok-weight-in-Div.weight (expr_tree c.in-Div.of.value)
+    (subst (λ x. HasFloor calls c.args.env.now (expr_tree x) c.in_ok-floor_of-in-Div.field-0) c.deref-in-Div.ensures c.in_ok-floor_of-in-Div.ensures)
+    c.in_ok-weight-in-Div.ensures c.in-Div.k)
+
+pub returns-in_ok-weight-in-Mod : goal.returns-in_ok-weight-in-Mod
+returns-in_ok-weight-in-Mod t c =
+    let calls = calls_of (map def_tree c.args.before.now) in
+    let tree : expr_tree c.args.expr.now ≡ expr_mod (expr_tree c.in-Mod.of.value) c.in-Mod.k = search (rules, the_lemmas) in
+    subst (λ e. HasFloor calls c.args.env.now e (floors.Number c.in_ok-weight-in-Mod.weight)) (sym tree)
+    (mod_has calls c.args.env.now c.in_ok-floor_of-in-Mod.field-0 c.in_ok-weight-in-Mod.weight (expr_tree c.in-Mod.of.value)
+    (subst (λ x. HasFloor calls c.args.env.now (expr_tree x) c.in_ok-floor_of-in-Mod.field-0) c.deref-in-Mod.ensures c.in_ok-floor_of-in-Mod.ensures)
+    c.in_ok-weight-in-Mod.ensures c.in-Mod.k)
 
 pub returns-in_ok-weight-in-Divides : goal.returns-in_ok-weight-in-Divides
 returns-in_ok-weight-in-Divides t c =
@@ -24,7 +51,7 @@ returns-in_ok-weight-in-Divides t c =
     let tree : expr_tree c.args.expr.now ≡ expr_divides c.in-Divides.k (expr_tree c.in-Divides.of.value) = search (rules, the_lemmas) in
     subst (λ e. HasFloor calls c.args.env.now e (floors.Truth c.in_ok-weight-in-Divides.weight)) (sym tree)
     (divides_has calls c.args.env.now c.in_ok-floor_of-in-Divides.field-0 c.in_ok-weight-in-Divides.weight (expr_tree c.in-Divides.of.value)
-    (subst (λ x. HasFloor calls c.args.env.now (expr_tree x) c.in_ok-floor_of-in-Divides.field-0) c.deref.ensures c.in_ok-floor_of-in-Divides.ensures)
+    (subst (λ x. HasFloor calls c.args.env.now (expr_tree x) c.in_ok-floor_of-in-Divides.field-0) c.deref-in-Divides.ensures c.in_ok-floor_of-in-Divides.ensures)
     c.in_ok-weight-in-Divides.ensures c.in-Divides.k)
 
 pub returns-in_ok-weight-in-Not : goal.returns-in_ok-weight-in-Not
