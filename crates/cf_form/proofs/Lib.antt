@@ -16,6 +16,7 @@ mod ExpansionExamples
 pub mod ExpansionLaws
 pub mod ExpansionTypes
 mod FloorChoose
+mod FloorExamples
 mod FloorForms
 mod FloorLaws
 mod FloorSteps
