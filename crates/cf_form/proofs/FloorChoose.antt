@@ -1,19 +1,17 @@
 -- What a choose weighs at least, by the floor of its relation.
-use Rattle.std.proofs.Common.{◌≡◌, ℕ, zero, suc, ◌+◌, ◌≤◌, ◌<◌, ◌-◌, ◌^◌, nat_le, Bool, true, false, cond, Option, None, Some, List, [], ◌∷◌, ◌++◌, length, map, filter, reverse, slice_index, append-nil, append_assoc, refl, sym, ap, ◌∙◌, subst, arith}
+use Rattle.std.proofs.Common.{◌≡◌, ℕ, suc, ◌+◌, ◌≤◌, ◌<◌, ◌-◌, ◌^◌, nat_le, Bool, true, false, cond, Option, None, Some, List, [], ◌∷◌, ◌++◌, length, map, reverse, slice_index, append-nil, append_assoc, refl, sym, ap, ◌∙◌, subst, arith}
 use Rattle.std.specs.Prelude.{if◌then◌else◌}
 use Rattle.std.proofs.lemmas.Bool.Decides.{nat_tests}
-use Rattle.std.proofs.lemmas.List.{map-append}
 use Rattle.cf_tree.specs.declared.base.Base.{Base}
 use Rattle.cf_tree.specs.declared.base.Base.TheVariants.{Int, Bool as OfTruth, Set}
-use Rattle.cf_form.specs.declared.floor.Floor.{Floor}
-use Rattle.cf_form.specs.declared.floor.Floor.TheVariants.{Number, Truth, Other}
+use Rattle.cf_form.specs.declared.floor.Floor.TheVariants.{Truth}
 use Rattle.cf_tree.specs.declared.raw.Param.{Param}
-use Rattle.cf_form.specs.Branches.{WideChoose, branched, truth_levels, truth_bounds, relation_at, all_outputs, values_in}
+use Rattle.cf_form.specs.Branches.{WideChoose, branched, truth_levels, truth_bounds, all_outputs, values_in}
 use Rattle.cf_tree.specs.DefView.{DefTree}
 use Rattle.cf_tree.specs.ExprTree.{ExprTree, expr_let, expr_choose_where, GivenExpr, holds_always, holds_where, at_any}
 use Rattle.cf_form.specs.Expansion.{Part, of_number, of_set, of_truth, truth_in, first_part, variables_from, Calls, expanded, call_expanded}
-use Rattle.cf_form.specs.Floor.{HasNumber, HasTruth, Stands, AreFloors, IsOne, HasFloor, base_floor, HasGiven, IsHeavy}
-use Rattle.cf_form.specs.Formed.{formed, formed_def, formed_behind, formed_defs, given_of, with_given, wide_choose, branching, choose_form, are_as_chosen, has_truths}
+use Rattle.cf_form.specs.Floor.{HasTruth, Stands, IsOne, HasFloor, base_floor, HasGiven, IsHeavy}
+use Rattle.cf_form.specs.Formed.{formed_def, formed_behind, formed_defs, given_of, with_given, wide_choose, branching, choose_form, are_as_chosen, has_truths}
 use Rattle.cf_program.specs.Lowered.{lowered}
 use Rattle.cf_form.specs.Alternatives.{all_of}
 use Rattle.cf_tree.specs.Params.{bases_of}
@@ -22,7 +20,7 @@ use Rattle.cf_form.specs.Polarity.{holding}
 use Rattle.cf_tree.specs.RelSize.{rel_size, capped}
 use Rattle.cf_tree.specs.RelTree.{RelTree, rel_true, rel_and}
 use Rattle.cf_program.specs.Size.{weight_in, measured, weights, first_above}
-use Rattle.cf_form.specs.SourceChooses.{SourceChoose, chooses_in}
+use Rattle.cf_form.specs.SourceChooses.{SourceChoose}
 use Rattle.cf_form.specs.Told.{first_passed, passed_or}
 use Rattle.cf_form.specs.Wide.{WideRel}
 use Rattle.cf_form.proofs.FloorForms.{one_by, variables_stand}

@@ -1,16 +1,14 @@
 -- Worked examples that hold down what floors say.
-use Rattle.std.proofs.Common.{◌≡◌, ℕ, zero, suc, ◌≤◌, pos, Option, None, Some, List, [], ◌∷◌, map, refl, ap, arith}
-use Rattle.cf_tree.specs.declared.base.Base.{Base}
+use Rattle.std.proofs.Common.{◌≡◌, ℕ, zero, suc, ◌≤◌, pos, None, Some, List, [], ◌∷◌, map, refl, ap, arith}
 use Rattle.cf_tree.specs.declared.base.Base.TheVariants.{Int, Bool as OfTruth, Set}
 use Rattle.cf_tree.specs.declared.base.Order.TheVariants.{Eq}
 use Rattle.cf_tree.specs.declared.raw.BinOp.TheVariants.{Add, Compare}
 use Rattle.cf_tree.specs.ExprTree.{ExprTree, expr_lit, expr_var, expr_binary, expr_min, expr_choose_where, exprs_of, holds_always, holds_where, at_any}
 use Rattle.cf_tree.specs.RelSize.{term_size}
 use Rattle.cf_tree.specs.RelTree.{TermTree, term_lit, term_var, term_add}
-use Rattle.cf_form.specs.declared.floor.Floor.{Floor}
 use Rattle.cf_form.specs.declared.floor.Floor.TheVariants.{Number, Truth, Other}
 use Rattle.cf_form.specs.Alternatives.{Guarded}
-use Rattle.cf_form.specs.Expansion.{Part, of_number, of_set, of_truth, Calls, call_expanded}
+use Rattle.cf_form.specs.Expansion.{of_number, of_set, of_truth, Calls, call_expanded}
 use Rattle.cf_form.specs.Floor.{HasNumber, HasTruth, Stands, AreFloors, IsOne, HasFloor, HaveFloor, base_floor, HasGiven, IsHeavy}
 use Rattle.cf_form.specs.Polarity.{Truths}
 use Rattle.cf_form.specs.Wide.{WideTerm, wide_lit, wide_var, wide_add, wide_if, wide_min, WideTerms, no_wides, wide_more, wide_empty, WideRel, wide_true, wide_compare, wide_not, wide_if_truth}

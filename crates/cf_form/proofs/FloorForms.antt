@@ -1,16 +1,16 @@
 -- Floors of expressions, by those of their parts.
-use Rattle.std.proofs.Common.{◌≡◌, ℕ, zero, suc, ◌+◌, ◌≤◌, ◌<◌, ℤ, pos, Bool, true, false, List, [], ◌∷◌, ◌++◌, length, map, get_or, refl, sym, ap, ◌∙◌, subst, arith}
+use Rattle.std.proofs.Common.{◌≡◌, ℕ, zero, suc, ◌+◌, ◌≤◌, ◌<◌, ℤ, pos, Bool, true, false, List, [], ◌∷◌, ◌++◌, length, map, get_or, sym, subst, arith}
 use Rattle.std.specs.Prelude.{slice_index_or}
 use Rattle.cf_tree.specs.declared.base.Base.{Base}
 use Rattle.cf_tree.specs.declared.base.Base.TheVariants.{Int, Bool as OfTruth, Set}
 use Rattle.cf_tree.specs.declared.base.Order.{Order}
 use Rattle.cf_tree.specs.declared.base.Order.TheVariants.{Eq, Ne, Lt, Le, Gt, Ge}
 use Rattle.cf_form.specs.declared.floor.Floor.{Floor}
-use Rattle.cf_form.specs.declared.floor.Floor.TheVariants.{Number, Truth, Other}
+use Rattle.cf_form.specs.declared.floor.Floor.TheVariants.{Number, Truth}
 use Rattle.cf_tree.specs.declared.raw.BinOp.{BinOp}
 use Rattle.cf_tree.specs.declared.raw.BinOp.TheVariants.{Add, Sub, Mul, And, Or, Implies, Compare}
 use Rattle.cf_tree.specs.ExprTree.{ExprTree, expr_lit, expr_truth, expr_var, expr_neg, expr_not, expr_abs, expr_binary, expr_divides, expr_div, expr_mod, expr_if, expr_let}
-use Rattle.cf_form.specs.Expansion.{Part, of_number, of_set, of_truth, number_in, set_in, truth_in, first_part, truth_part, variables_from, Calls, expanded, binary_part, compared_part, if_part, if_parts}
+use Rattle.cf_form.specs.Expansion.{Part, of_number, of_set, of_truth, number_in, truth_in, first_part, truth_part, variables_from, Calls, expanded, binary_part, if_part, if_parts}
 use Rattle.cf_form.specs.Floor.{HasNumber, HasTruth, Stands, AreFloors, IsOne, HasFloor, HaveFloor, base_floor}
 use Rattle.cf_form.specs.Wide.{wide_lit, wide_neg, wide_not, wide_abs, wide_div, wide_mod, wide_divides}
 use Rattle.cf_form.proofs.FloorLaws.{lit_floor, var_floor, neg_floor, abs_floor, div_floor, mod_floor, divides_floor, add_floor, sub_floor, mul_floor, compare_floor, true_floor, false_floor, truth_floor, not_floor, and_floor, or_floor, implies_floor, same_floor, other_floor, if_floor}

@@ -1,13 +1,12 @@
 -- What forms weigh at least, by what their parts do.
-use Rattle.std.proofs.Common.{◌≡◌, ℕ, ◌+◌, ◌≤◌, ◌*◌, ℤ, pos, Bool, true, false, ◌&&◌, None, Some, Option, List, [], ◌∷◌, refl, sym, ap, ap₂, ◌∙◌, subst, arith}
-use Rattle.cf_tree.specs.RelSize.{term_size, rel_size}
-use Rattle.cf_tree.specs.RelTree.{TermTree, term_lit, term_var, term_neg, term_add, term_sub, term_mul, term_div, term_mod, term_abs, RelTree, rel_compare, rel_divides, rel_true, rel_false, rel_not, rel_and, rel_or}
+use Rattle.std.proofs.Common.{◌≡◌, ℕ, ◌+◌, ◌≤◌, ◌*◌, ℤ, Bool, true, false, ◌&&◌, None, Some, Option, refl, ap, ap₂, arith}
+use Rattle.cf_tree.specs.RelSize.{rel_size}
+use Rattle.cf_tree.specs.RelTree.{term_lit, term_var, term_neg, term_add, term_sub, term_mul, term_div, term_mod, term_abs, RelTree, rel_and, rel_or}
 use Rattle.cf_tree.specs.declared.base.Order.{Order}
-use Rattle.cf_tree.specs.declared.base.Order.TheVariants.{Ge}
-use Rattle.cf_form.specs.Alternatives.{Guarded, alone, term_count, over_one, over_two, some_atom}
-use Rattle.cf_form.specs.Floor.{IsAlone, HasNumber, HasTruth}
-use Rattle.cf_form.specs.Passed.{term_passed, passed, earlier, above, first_of}
-use Rattle.cf_form.specs.Polarity.{Truths, alternatives, holding, failing, not_or, two_ways, itself, truth_holds, truth_fails}
+use Rattle.cf_form.specs.Alternatives.{term_count, over_one, over_two}
+use Rattle.cf_form.specs.Floor.{HasNumber, HasTruth}
+use Rattle.cf_form.specs.Passed.{term_passed, passed, earlier}
+use Rattle.cf_form.specs.Polarity.{holding, failing, not_or, truth_holds, truth_fails}
 use Rattle.cf_form.specs.Wide.{WideTerm, wide_lit, wide_var, wide_neg, wide_add, wide_sub, wide_mul, wide_div, wide_mod, wide_abs, WideRel, wide_true, wide_false, wide_truth, wide_compare, wide_divides, wide_not, wide_and, wide_or, wide_implies, wide_same, wide_other, wide_if_truth, is_plain}
 
 -- ---- number forms

@@ -1,6 +1,6 @@
 -- The first function that is too heavy, where the weight of one stands still at the greatest number.
-use Rattle.std.proofs.Common.{◌≡◌, ◌⊎◌, inl, inr, ℕ, suc, ◌+◌, ◌-◌, ◌<◌, ◌≤◌, ◌^◌, false, None, Some, Option, List, [], ◌∷◌, ◌++◌, length, map, take, drop, get_or, refl, sym, ap, ap₂, ◌∙◌, subst, arith}
-use Rattle.std.proofs.lemmas.List.{append-nil, map-append, map_more, length-map, length-take-le, take-append-drop, drop_all}
+use Rattle.std.proofs.Common.{◌≡◌, ◌⊎◌, inl, ℕ, ◌+◌, ◌-◌, ◌<◌, ◌≤◌, ◌^◌, false, None, Some, List, [], ◌∷◌, ◌++◌, length, map, take, drop, get_or, sym, ap, ◌∙◌, subst, arith}
+use Rattle.std.proofs.lemmas.List.{map-append, map_more, length-map, length-take-le, take-append-drop, drop_all}
 use Rattle.cf_tree.specs.declared.base.Base.{Base}
 use Rattle.cf_tree.specs.declared.expr.Def.{Def}
 use Rattle.cf_tree.specs.declared.expr.Expr.{Expr}
@@ -11,7 +11,6 @@ use Rattle.cf_tree.specs.ExprView.{expr_tree}
 use Rattle.cf_tree.specs.Params.{bases_of}
 use Rattle.cf_program.specs.Size.{weights, first_above}
 use Rattle.cf_form.specs.declared.chooses.WideChoose.{WideChoose as DeclaredChoose}
-use Rattle.cf_form.specs.declared.fault.FormFault.{FormFault}
 use Rattle.cf_form.specs.declared.fault.FormFault.TheVariants as faults
 use Rattle.cf_form.specs.declared.floor.Floor.{Floor}
 use Rattle.cf_form.specs.declared.floor.Floor.TheVariants as floors
@@ -22,7 +21,7 @@ use Rattle.cf_form.specs.FormAnswers.{AreNarrow, IsUnformed}
 use Rattle.cf_form.specs.Formed.{formed_defs, wide_choose, has_truths}
 use Rattle.cf_form.specs.Made.{IsPast}
 use Rattle.cf_form.specs.Saturated.{HasCondition, IsHeavyAt, IsNarrow, AreNarrowSo}
-use Rattle.cf_form.specs.SourceChooses.{SourceChoose, chooses_in}
+use Rattle.cf_form.specs.SourceChooses.{chooses_in}
 use Rattle.cf_form.specs.Telling.{AreFound, wide_behind}
 use Rattle.cf_form.specs.Told.{first_passed}
 use Rattle.cf_form.specs.ToldView.{choose_view}

@@ -1,4 +1,4 @@
-use Rattle.std.proofs.Common.{rules, ◌≡◌, ◌∙◌, map, sym, ap, subst}
+use Rattle.std.proofs.Common.{rules, ◌≡◌, ◌∙◌, map, sym, subst}
 use Rattle.cf_tree.specs.declared.expr.Expr.{the_lemmas}
 use Rattle.cf_tree.specs.DefView.{def_tree}
 use Rattle.cf_tree.specs.ExprTree.{expr_neg, expr_not, expr_abs, expr_divides, expr_div, expr_mod, expr_if, expr_let}
