@@ -893,4 +893,4 @@ export const examples = [
   "lines": ""
  }
 ];
-export const programSum = "b754d25bf5048ec50b8e3969afc8744dcbb8fba776c92b9ef84f0e2635a54525";
+export const programSum = "dd76ee91699dad507699bd9361be815a57c0c165e0c6cb5dc9db14e48c68c343";
