@@ -893,4 +893,4 @@ export const examples = [
   "lines": ""
  }
 ];
-export const programSum = "dd76ee91699dad507699bd9361be815a57c0c165e0c6cb5dc9db14e48c68c343";
+export const programSum = "c36faf73ec9ff93d3bc4ca118b80db3c6d3b5303d5151ef4c50cb96b8b61b0dd";
