@@ -2,17 +2,19 @@
 
 from __future__ import annotations
 
-import re
 from collections.abc import Iterator, Sequence
 from dataclasses import dataclass
 from typing import Any
 
+from harness.steps import verified_lines
 from worked import SPLIT
 
 TEXT = 1 << 20
+WRITTEN = 1 << 26
 LINE = 1 << 16
 INPUT = 1 << 24
 MAX = 2**127 - 1
+HEADER = b"comfusy 3\n"
 SYNTAX = "line {} column {}: syntax\n"
 ILL_TYPED = "target not well typed\n"
 PAST = "choose 1: coefficient past 128 bits\n"
@@ -504,15 +506,34 @@ def proofs() -> Iterator[Trial]:
 
 
 def verified(trial: Trial, proved: bytes) -> Trial:
-    """`verify` on what `prove` wrote in a trial: a line for each block, or that it is too long."""
+    """`verify` on what `prove` wrote in a trial: a line for each block, or that it is too long, which it never is of edition 3."""
     name = trial.name.replace(", prove", ", verify")
-    if len(proved) > TEXT:
+    if len(proved) > TEXT and not trial.text.startswith(HEADER):
         return steps(name, trial.text, proved, status=6, said="steps text too long\n")
-    numbers = re.findall(rb"^choose (\d+) {$", proved, re.M)
-    return steps(name, trial.text, proved, wrote=(b"".join(b"choose %s: verified\n" % number for number in numbers), 1))
+    return steps(name, trial.text, proved, wrote=(verified_lines(proved), 1))
+
+
+def of_edition_three() -> Iterator[Trial]:
+    """Inputs, targets and steps of edition 3 past the limits of language 2, and at their own."""
+    number = HEADER + program(b"a: int", b"int", b"a")
+    yield source("64 MiB in one line of edition 3", number, **answers(b"1" * (4 * INPUT), b"line too long\n"))
+    yield source("a byte more than 16 MiB of line feeds", HEADER + program(b"", b"int", b"7"), **answers(b"\n" * (INPUT + 1), b"7\n", INPUT + 1))
+    yield target("a byte too long of edition 3, exec", HEADER + b" " * (WRITTEN + 1 - len(HEADER)), status=6, said="text too long\n")
+    yield target("opening parentheses of edition 3, exec", filled(HEADER, b"(", size=WRITTEN), **refused(2, 1))
+    front = HEADER + b"main (int): int = solve 1 { "
+    text = filled(front, b"arm [] { need (v0 == 1); give 1 } ", b"arm [] { give 2 } }", WRITTEN)
+    yield target("arms to the end of the text of edition 3", text, **answers(b"0\n", b"2\n"))
+    rounding = HEADER + ROUNDING
+    yield steps("a byte too long of edition 3, verify", rounding, b" " * (WRITTEN + 1), status=6, said="steps text too long\n")
+    yield steps("opening parentheses of edition 3, verify", rounding, b"(" * WRITTEN, **refused_steps(1, 1))
+    text = filled(b"choose 1 (p = true", b", p = true", b") {} main(): int = 0", WRITTEN)
+    yield steps("truth variables to the end of the text", rounding, text, **rejected(1, 0, 0, "wrong blocks"))
+    cleans = filled(FRONT, b"clean;", BEHIND, WRITTEN)
+    yield steps("clean, 11,184,802 times", rounding, cleans, **rejected(1, 1, cleans.count(b";") + 1, "not finished"))
 
 
 def trials() -> Iterator[Trial]:
+    """All trials; those of edition 3 come last, since they make this script large, and memory is told from its size on."""
     groups = bytes_and_tokens, depths, functions, many_names, matches, targets, inputs, sets, chooses, late_trials, questions, steps_files, proofs
-    for group in groups:
+    for group in *groups, of_edition_three:
         yield from group()

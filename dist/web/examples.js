@@ -893,4 +893,4 @@ export const examples = [
   "lines": ""
  }
 ];
-export const programSum = "b754d25bf5048ec50b8e3969afc8744dcbb8fba776c92b9ef84f0e2635a54525";
+export const programSum = "c36faf73ec9ff93d3bc4ca118b80db3c6d3b5303d5151ef4c50cb96b8b61b0dd";

@@ -47,11 +47,11 @@ class NotLinear(SourceError):
 
 
 class LimitPassed(SourceError):
-    """A number or a count of the text passes its limit."""
+    """A number or a count of the text passes its limit, or what would be written is too long."""
 
 
 class InputTooLong(Fault):
-    """The input is too long."""
+    """The input is too long, as it is only in language 2."""
 
 
 class NotAccepted(Fault):

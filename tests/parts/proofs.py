@@ -2,16 +2,11 @@
 
 from __future__ import annotations
 
-import re
 from pathlib import Path
 
 from harness.checks import Check, ended
 from harness.program import NO_INPUT, Room
-
-
-def verified_lines(steps: bytes) -> bytes:
-    """A line for each block of printed steps, as `verify` writes it where it accepts them all."""
-    return b"".join(b"choose %s: verified\n" % number for number in re.findall(rb"^choose (\d*) {$", steps, re.M))
+from harness.steps import verified_lines
 
 
 def try_verified(name: str, source: str | Path, steps: bytes, room: Room) -> Check:

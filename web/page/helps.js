@@ -19,7 +19,7 @@ const places = {
 
 const wholes = [
   [/^no main/, 'A program begins at a function that is named `main`.'],
-  [/text too long/, 'The text is longer than the program reads.'],
+  [/text too long/, 'A program has at most 1,048,576 bytes. A target or steps, read or written, have at most 67,108,864; of language 2 1,048,576 are read.'],
   [/Cases \d/, 'The relation has too many cases: `||` adds them up, `&&` multiplies, and `!=` counts 2. Say with ranges what is left.'],
   [/Search \d/, 'Too many numbers would be tried. If a sum lies between two bounds, give it a name of its own with `==`.'],
   [/Sets \d/, 'At most six sets fit in one relation. Two `choose` one after the other share the work.'],
@@ -31,7 +31,7 @@ const wholes = [
   [/rejected at case 0 step 0/, 'This is said of the block as a whole: its steps may be right, but its code or its cases are not theirs.'],
   [/rejected at case/, 'Steps and cases count from 1. This step may not be taken where it stands.'],
   [/no memory/, 'The page ran out of memory.'],
-  [/input too long/, 'At most 16,777,216 bytes of input are read.'],
+  [/input too long/, 'In language 2 at most 16,777,216 bytes of input are read. A program that begins with `comfusy 3` takes any number.'],
 ];
 
 const missing = 'The program ends where something else should come. Perhaps a parenthesis, an `else` or the body of a function is missing.';

@@ -1,5 +1,6 @@
 """The repository's examples as calls of the program, with what their files say that it answers."""
 
+import re
 from pathlib import Path
 
 TEST = Path(__file__).resolve().parent
@@ -21,7 +22,7 @@ def names_in(folder):
 
 def verified_lines(steps):
     """Returns the line that `verify` writes for each block of a printed steps file."""
-    return "".join(line.removesuffix(" {") + ": verified\n" for line in steps.split("\n") if line.startswith("choose ") and line.endswith("{"))
+    return "".join(f"choose {number}: verified\n" for number in re.findall(r"^choose (\d+) .*\{$", steps, re.MULTILINE))
 
 
 def answers_of(name):

@@ -1,18 +1,13 @@
 -- The commands agree with each other.
-use Rattle.std.proofs.Common.{◌≡◌, ap, subst, refl, sym, ℕ, ◌-◌, ◌^◌, ◌≤◌, not, List, [], ◌∷◌, length, map}
+use Rattle.std.proofs.Common.{◌≡◌, ap, subst, refl, ℕ, ◌-◌, ◌^◌, ◌≤◌, not, List, [], ◌∷◌, length, map}
 use Rattle.cf_io.specs.Limits.{line_limit}
 use Rattle.cf_lex.specs.Editions.{edition_of}
-use Rattle.cf_tree.specs.CodeTree.{CodeTree}
-use Rattle.cf_tree.specs.CodeView.{code_tree}
 use Rattle.cf_tree.specs.ChooseTree.{ChooseTree}
 use Rattle.cf_tree.specs.DefView.{TargetTree, target_tree}
-use Rattle.cf_tree.specs.declared.base.Base.{Base}
-use Rattle.cf_tree.specs.declared.base.Edition.TheVariants.{Two}
 use Rattle.cf_tree.specs.declared.target.RawTarget.{RawTarget}
 use Rattle.cf_target.proofs.Only.{one_law}
 use Rattle.cf_target.specs.Spelling.{IsTarget}
 use Rattle.cf_eval.specs.Replies.{IsReply, too_long, bad_input, meaning}
-use Rattle.cf_pass.specs.Passes.{Told}
 use Rattle.cf_steps.specs.Blocks.{block_tree}
 use Rattle.cf_steps.specs.declared.block.Block.{Block}
 use Rattle.cf_warn.specs.declared.answer.ExistenceAnswer.TheVariants.{Always, Missing, Undecided}
@@ -20,7 +15,7 @@ use Rattle.cf_words.specs.Commands.{exec}
 use Rattle.cf_answer.specs.Agreeing.{ProvedIsVerified, CompiledIsRun, NeedsAreChecked}
 use Rattle.cf_answer.specs.Certificates.{OneForEach, IsProofOf, IsTraced}
 use Rattle.cf_answer.specs.Limits.{of_target, most_of}
-use Rattle.cf_answer.specs.Owed.{by_target, IsReplyBy, AllReplied, AreReplies, compiled}
+use Rattle.cf_answer.specs.Owed.{by_target, AreReplies, compiled}
 use Rattle.cf_answer.specs.Passes.{applied}
 use Rattle.cf_answer.specs.Sources.{Spelled, IsTypedTarget}
 use Rattle.cf_answer.proofs.CauseLemmas.{trees_agree}
@@ -42,7 +37,8 @@ proved_is_verified name other source given last ls text (cs, b, (bs, traced, hea
 
 -- ---- what `compile` prints
 -- a text spells one target
-target_once : (text : List ℕ) (t u : TargetTree) → Spelled (of_target (edition_of text)) (IsTarget (edition_of text)) text t → Spelled (of_target (edition_of text)) (IsTarget (edition_of text)) text u → t ≡ u
+target_once : (text : List ℕ) (t u : TargetTree) → Spelled (of_target (edition_of text)) (IsTarget (edition_of text)) text t →
+    Spelled (of_target (edition_of text)) (IsTarget (edition_of text)) text u → t ≡ u
 target_once text t u h i = trees_agree (of_target (edition_of text)) (IsTarget (edition_of text)) (one_law (edition_of text)) text t u h i
 
 -- a reply is told by the parameters and the code

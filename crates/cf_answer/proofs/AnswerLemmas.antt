@@ -159,7 +159,8 @@ wrote_prefix job before after printed e same owed fits took =
             owed = subst (λ ls. Owes job.command job.files job.given job.passes ls printed) (sym (short_answered most [] (none_within most))) owed;
             fits = subst (λ v. IsWithin (output_most job.command (edition_for job.files)) (length (printed ++ v)))
                 (sym (short_behind most [] (closing job.command job.passes) (none_within most))) fits;
-            took = subst (λ v. TookPrefix before.out.held after.out.held (printed ++ v)) (sym (short_behind most [] (closing job.command job.passes) (none_within most))) took;
+            took = subst (λ v. TookPrefix before.out.held after.out.held (printed ++ v))
+                (sym (short_behind most [] (closing job.command job.passes) (none_within most))) took;
           }),
     )
 
@@ -302,7 +303,8 @@ wrote_by job before after Took front ls end text who by read replies took = reco
 }
 
 -- a prefix of what is owed for what was read and what is left
-stopped_by : (job : Job) (before after : Streams) (front rest text : List ℕ) (who : Answerer) → AnswersBy job who → Consumes before.input.left after.input.left front →
+stopped_by : (job : Job) (before after : Streams) (front rest text : List ℕ) (who : Answerer) → AnswersBy job who →
+    Consumes before.input.left after.input.left front →
     AreTold after.input.left rest →
     AreReplies who (answered_lines (input_most job.files) (front ++ rest)) text →
     TookPrefix before.out.held after.out.held (text ++ behind_lines (input_most job.files) (front ++ rest) (closing job.command job.passes)) →
@@ -334,9 +336,11 @@ cut_ends job before after who fault.Input by r = (
       (subst (Appends before.out.held after.out.held) (sym (append-nil r.runs.1.0)) r.runs.1.2),
 )
 cut_ends job before after who fault.Output by r =
-    stopped_by job before after r.front r.runs.0 r.runs.2.0 who by r.read r.runs.1 r.runs.2.1 (prefix_more before.out.held after.out.held r.runs.2.0 _ r.runs.2.2)
+    stopped_by job before after r.front r.runs.0 r.runs.2.0 who by r.read r.runs.1 r.runs.2.1
+    (prefix_more before.out.held after.out.held r.runs.2.0 _ r.runs.2.2)
 cut_ends job before after who fault.NoMemory by r =
-    inl (stopped_by job before after r.front r.runs.0 r.runs.2.0 who by r.read r.runs.1 r.runs.2.1 (prefix_more before.out.held after.out.held r.runs.2.0 _ r.runs.2.2))
+    inl (stopped_by job before after r.front r.runs.0 r.runs.2.0 who by r.read r.runs.1 r.runs.2.1
+    (prefix_more before.out.held after.out.held r.runs.2.0 _ r.runs.2.2))
 cut_ends job before after who f by r = absurd r.runs
 
 -- all replies were written, and then a prefix of what stands behind them
@@ -352,15 +356,21 @@ part_ends job before after who mid by r (first, rest, is, took) =
     (subst (λ v. AreReplies who (answered_lines most v) text) (sym same)
     (subst (λ ls. AreReplies who ls text) (sym (short_answered most r.front r.runs.1)) r.runs.2.1))
     (subst (λ v. TookPrefix before.out.held after.out.held (text ++ behind_lines most v end)) (sym same)
-    (subst (λ v. TookPrefix before.out.held after.out.held (text ++ v)) (sym (short_behind most r.front end r.runs.1))
-    (text ++ first, rest, ap (λ s. text ++ s) is ∙ sym (append_assoc text first rest), Appends-trans before.out.held mid after.out.held text first r.runs.2.2 took)))
+    (subst (λ v. TookPrefix before.out.held after.out.held (text ++ v)) (sym (short_behind most r.front end r.runs.1)) (
+      text ++ first,
+      rest,
+      ap (λ s. text ++ s) is ∙ sym (append_assoc text first rest),
+      Appends-trans before.out.held mid after.out.held text first r.runs.2.2
+          took,
+    )))
 
 through_ends : (job : Job) (before after : Streams) (who : Answerer) (end : List ℕ) (answer : Result (Unit {0}) Fault) → AnswersBy job who →
     end ≡ closing job.command job.passes →
     RunsThrough who (input_most job.files) end before.input.left after.input.left before.out.held after.out.held answer → Ends job before after answer
 through_ends job before after who end answer by is (cut f e r) = subst (Ends job before after) (sym e) (cut_ends job before after who f by r)
 through_ends job before after who end answer by is (part mid f r e out took) =
-    subst (Ends job before after) (sym e) (out_ends job before after f out (part_ends job before after who mid by r (subst (TookPrefix mid after.out.held) is took)))
+    subst (Ends job before after) (sym e) (out_ends job before after f out
+    (part_ends job before after who mid by r (subst (TookPrefix mid after.out.held) is took)))
 through_ends job before after who end answer by is (whole mid r e took) =
     let text = r.runs.2.0 in
     subst (Ends job before after) (sym e) (
@@ -401,7 +411,8 @@ pub through_answers : (c : Command) (given last : List Told) (files : List (List
     ((ls : List (List ℕ)) (replies : List ℕ) → AreReplies who ls replies → Owes c files given last ls replies) →
     RunsThrough who (input_most files) end before.input.left after.input.left before.out.held after.out.held answer →
     Counts (answer ≡ Err fault.Input) before.input.faults after.input.faults → Counts (answer ≡ Err fault.Output) before.out.faults after.out.faults →
-    IsWithin (one_past (input_most files)) (after.input.given - before.input.given) → after.input.ends ≤ before.input.ends + 1 → AnswersOn c given last files before after answer
+    IsWithin (one_past (input_most files)) (after.input.given - before.input.given) → after.input.ends ≤ before.input.ends + 1 →
+    AnswersOn c given last files before after answer
 through_answers c given last files who end before after answer e p is owes r input out given_most ends_most =
     let b = bounded (input_most files) before.input.left after.input.left before.out.held after.out.held who end answer r in record {
       passed = p;
@@ -416,7 +427,8 @@ through_answers c given last files who end before after answer e p is owes r inp
     }
 
 -- the end is written behind the replies
-pub through_written : (who : Answerer) (most : Option ℕ) (end : List ℕ) (left still_left old mid new : Option (List ℕ)) (done : Unit {0}) (answer : Result (Unit {0}) Fault) →
+pub through_written : (who : Answerer) (most : Option ℕ) (end : List ℕ) (left still_left old mid new : Option (List ℕ)) (done : Unit {0})
+    (answer : Result (Unit {0}) Fault) →
     RunsOn who most left still_left old mid (Ok done) → OnOk answer (Appends mid new end) → TookPrefix mid new end → IfErr answer IsOutFault →
     RunsThrough who most end left still_left old new answer
 through_written who most end left still_left old mid new done (Ok other) r all some is = whole mid r refl all

@@ -30,10 +30,12 @@ data Cause {Tree : Type 0} (kind : TextKind) (Is : Tree → List Token → Type 
   no_tree : (ts : List Token) (p : Place) → HasTokens kind text ts p at_end → ((x : Tree) → Is x ts → ⊥) → IsText f → Cause kind Is Bad text f
   bad_tree : (x : Tree) → Spelled kind Is text x → Bad x f → Cause kind Is Bad text f
 
-tokens_agree : (kind : TextKind) (text : List ℕ) (ts us : List Token) (p q : Place) (e d : Ending) → HasTokens kind text ts p e → HasTokens kind text us q d → (ts ≡ us) × (p ≡ q) × (e ≡ d)
+tokens_agree : (kind : TextKind) (text : List ℕ) (ts us : List Token) (p q : Place) (e d : Ending) → HasTokens kind text ts p e → HasTokens kind text us q d →
+    (ts ≡ us) × (p ≡ q) × (e ≡ d)
 tokens_agree kind text ts us p q e d a b = LexesTo-once (tokens_of kind) (2 ^ 127 - 1) text ts us p q e d a.1 b.1
 
-pub trees_agree : {Tree : Type 0} (kind : TextKind) (Is : Tree → List Token → Type 0) → IsSingle Is → (text : List ℕ) (x y : Tree) → Spelled kind Is text x → Spelled kind Is text y → x ≡ y
+pub trees_agree : {Tree : Type 0} (kind : TextKind) (Is : Tree → List Token → Type 0) → IsSingle Is → (text : List ℕ) (x y : Tree) → Spelled kind Is text x →
+    Spelled kind Is text y → x ≡ y
 trees_agree kind Is one text x y s t =
     let same = tokens_agree kind text s.0 t.0 s.1 t.1 at_end at_end s.2 t.2 in
     one s.0 x y s.3 (subst (Is y) (sym same.0) t.3)
@@ -81,7 +83,8 @@ both_causes kind Is Bad one text both f g (bad_tree x s a) (bad_tree y t b) = bo
 pub alike : {Tree : Type 0} (kind : TextKind) (Is : Tree → List Token → Type 0) (read : Reader Tree) (Bad : Tree → Fault → Type 0) → IsSingle Is →
     (text : List ℕ) → ((x : Tree) (f g : Fault) → Spelled kind Is text x → Bad x f → Bad x g → fault_status f ≡ fault_status g) →
     (f g : Fault) → Causes kind Is read Bad text f → Causes kind Is read Bad text g → fault_status f ≡ fault_status g
-alike kind Is read Bad one text both f g a b = both_causes kind Is Bad one text both f g (cause_of kind Is read Bad text f a) (cause_of kind Is read Bad text g b)
+alike kind Is read Bad one text both f g a b =
+    both_causes kind Is Bad one text both f g (cause_of kind Is read Bad text f a) (cause_of kind Is read Bad text g b)
 
 -- a text that is refused spells no tree that is never refused
 never_caused : {Tree : Type 0} (kind : TextKind) (Is : Tree → List Token → Type 0) (Bad : Tree → Fault → Type 0) → IsSingle Is →

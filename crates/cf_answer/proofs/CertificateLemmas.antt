@@ -26,13 +26,12 @@ use Rattle.cf_steps.proofs.Only.{one_law as one_blocks}
 use Rattle.cf_cert.specs.Judging.{IsVerdict}
 use Rattle.cf_cert.specs.declared.verdict.Verdict.{Verdict}
 use Rattle.cf_cert.specs.declared.verdict.Verdict.TheVariants.{Yes, Rejected}
-use Rattle.cf_cert.specs.declared.verdict.Why.TheVariants.{Blocks}
 use Rattle.cf_cases.specs.Holding.{EachOf}
 use Rattle.cf_cert.specs.Laws.{AreWithinCases, IsLinearChoose}
 use Rattle.cf_cert.proofs.CertifiedArms.{certified_means}
 use Rattle.cf_cert.proofs.JudgeLaws.{one_verdict}
 use Rattle.cf_answer.specs.Certificates.{asked_in, OneForEach, IsProofOf, IsTraced, AreHeaded, AreProofs, AreVerified}
-use Rattle.cf_answer.specs.Branches.{AreBranched, IsVerdictBeside, IsVerdictIn, head_of, same_head, same_truth, wrong_head}
+use Rattle.cf_answer.specs.Branches.{AreBranched, IsVerdictBeside, IsVerdictIn, head_of, same_head, wrong_head}
 use Rattle.cf_answer.specs.Limits.{of_source, of_target}
 use Rattle.cf_answer.specs.Refusals.{Causes, IsBroken, IsBrokenSource, IsRefusedSource, IsUnverified, bad_source, bad_steps, bad_blocks}
 use Rattle.cf_answer.specs.Sources.{AreToldIn, AreToldOf, Spelled, IsTypedBy, IsTypedSource}
@@ -60,7 +59,8 @@ spelled_unrefused edition text bs f s h =
 
 pub verify_alike : (source steps : List ℕ) (f g : Fault) → IsUnverified source steps f → IsUnverified source steps g → fault_status f ≡ fault_status g
 verify_alike source steps f g (bad_source a h) (bad_source b i) =
-    alike (of_source (edition_of source)) (IsProgram (edition_of source)) (program_of (edition_of source) 200) (IsBroken (edition_of source) Plain) (one_program source)
+    alike (of_source (edition_of source)) (IsProgram (edition_of source)) (program_of (edition_of source) 200) (IsBroken (edition_of source) Plain)
+    (one_program source)
     source (λ program a b s. broken_alike (edition_of source) Plain program a b) f g h i
 verify_alike source steps f g (bad_source a h) (bad_steps typed e s i) = absurd (typed_unbroken source typed f s h)
 verify_alike source steps f g (bad_source a h) (bad_blocks cs bs n i j w s b v) = absurd (typed_unbroken source s.typed f s.is h)
@@ -120,7 +120,8 @@ heads_right (c ∷ cs) (b ∷ bs) h =
     rw (head_same (head_of c) b.truths first) (heads_right cs bs more)
 
 -- the verdict on them is one
-one_beside : (wrong : Option ℕ) (qs : List ChooseTree) (bs : List BlockTree) (v w : Verdict) → IsVerdictBeside wrong qs bs v → IsVerdictBeside wrong qs bs w → v ≡ w
+one_beside : (wrong : Option ℕ) (qs : List ChooseTree) (bs : List BlockTree) (v w : Verdict) → IsVerdictBeside wrong qs bs v → IsVerdictBeside wrong qs bs w →
+    v ≡ w
 one_beside (Some n) qs bs v w h k = h ∙ sym k
 one_beside None qs bs v w h k = one_verdict qs bs v w h k
 
@@ -133,7 +134,8 @@ verify_unrefused source steps cs f a (bs, b, heads, proofs) (bad_source g h) = t
 verify_unrefused source steps cs f a (bs, b, heads, proofs) (bad_steps other e t h) = spelled_unrefused (edition_of source) steps bs _ b h
 verify_unrefused source steps cs f a (bs, b, heads, proofs) (bad_blocks ds others n i j w t c v) =
     let chooses : ds ≡ cs = branched_once source cs ds a t in
-    let blocks : others ≡ bs = trees_agree (of_target (edition_of source)) (AreBlocks (edition_of source)) (one_blocks (edition_of source)) steps others bs c b in
+    let blocks : others ≡ bs = trees_agree (of_target (edition_of source)) (AreBlocks (edition_of source)) (one_blocks (edition_of source)) steps others bs c b
+    in
     let yes = verdict_in cs bs Yes heads (proofs_accepted (map (λ c. c.0) cs) bs proofs) in
     let no : IsVerdictIn cs bs (Rejected n i j w) =
     subst (λ xs. IsVerdictIn cs xs (Rejected n i j w)) blocks (subst (λ ps. IsVerdictIn ps others (Rejected n i j w)) chooses v) in

@@ -99,7 +99,12 @@ done-too_soon h = cc (h.1)
 done-at_the_limit : (bytes : List ℕ) → length bytes ≡ 16777216 → OwesRun (lines bytes) (codes "3\n") →
     Ends job (streams (input bytes) (out [])) (after [] (codes "3\n# fold 12\n")) (Ok tt)
 unfolding input_limit digits
-done-at_the_limit bytes e owed = (bytes, refl, short bytes (omega (arith, e)), record { text = codes "3\n"; read = sym (append-nil bytes); owed = owed; fits = tt; took = refl })
+done-at_the_limit bytes e owed = (
+  bytes,
+  refl,
+  short bytes (omega (arith, e)),
+  record { text = codes "3\n"; read = sym (append-nil bytes); owed = owed; fits = tt; took = refl },
+)
 
 done-past_the_limit : (bytes held : List ℕ) → length bytes ≡ 16777217 → Ends job (streams (input bytes) (out [])) (after [] held) (Ok tt) → ⊥
 done-past_the_limit bytes held e h = not_short bytes h.0 (h.3.read ∙ append-nil h.0) e h.2
@@ -116,7 +121,8 @@ input-failed_owes h =
 input-failed_at_the_limit : (bytes : List ℕ) → length bytes ≡ 16777216 → OwesRun (ended bytes) [] →
     Ends job (streams (input bytes) (out [])) (after [] []) (Err fault.Input)
 unfolding input_limit
-input-failed_at_the_limit bytes e owed = (bytes, refl, short bytes (omega (arith, e)), record { text = []; read = sym (append-nil bytes); owed = owed; fits = tt; took = refl })
+input-failed_at_the_limit bytes e owed =
+    (bytes, refl, short bytes (omega (arith, e)), record { text = []; read = sym (append-nil bytes); owed = owed; fits = tt; took = refl })
 
 input-failed_past_the_limit : (bytes held : List ℕ) → length bytes ≡ 16777217 → Ends job (streams (input bytes) (out [])) (after [] held) (Err fault.Input) → ⊥
 input-failed_past_the_limit bytes held e h = not_short bytes h.0 (h.3.read ∙ append-nil h.0) e h.2
@@ -150,8 +156,19 @@ not-too_long bytes held e h =
 -- ---- `out` failed: a prefix of what is owed for all lines was written, also where the rest of them was not read
 output-failed : OwesRun two (codes "3\n4\n") → Ends job before (after (codes "2") (codes "x3\n4")) (Err fault.Output)
 unfolding input_limit digits
-output-failed owed =
-    (codes "1\n", codes "2", refl, record { text = codes "3\n4\n"; read = refl; owed = owed; fits = tt; took = (codes "3\n4", codes "\n# fold 12\n", refl, refl) })
+output-failed owed = (
+  codes "1\n",
+  codes "2",
+  refl,
+  record {
+    text = codes "3\n4\n";
+    read = refl;
+    owed = owed;
+    fits = tt;
+    took =
+        (codes "3\n4", codes "\n# fold 12\n", refl, refl);
+  },
+)
 
 output-failed_in_the_tallies : OwesRun two (codes "3\n4\n") → Ends job before (after [] (codes "x3\n4\n# f")) (Err fault.Output)
 unfolding input_limit digits
@@ -168,7 +185,19 @@ output-changed h = let e : 121 ≡ 120 = first-bytes 121 120 (codes "3\n") h.3.t
 no-memory_on_the_way : OwesRun two (codes "3\n4\n") → Ends job before (after (codes "2") (codes "x3\n")) (Err fault.NoMemory)
 unfolding input_limit digits
 no-memory_on_the_way owed =
-    inl (codes "1\n", codes "2", refl, record { text = codes "3\n4\n"; read = refl; owed = owed; fits = tt; took = (codes "3\n", codes "4\n# fold 12\n", refl, refl) })
+    inl (
+      codes "1\n",
+      codes "2",
+      refl,
+      record {
+        text = codes "3\n4\n";
+        read = refl;
+        owed = owed;
+        fits = tt;
+        took =
+            (codes "3\n", codes "4\n# fold 12\n", refl, refl);
+      },
+    )
 
 no-memory_before : Ends job before (after [] (codes "x")) (Err fault.NoMemory)
 no-memory_before = inr refl

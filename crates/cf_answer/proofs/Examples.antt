@@ -108,7 +108,8 @@ verify_reads_none = refl
 compile_reads_none : input_for (compile (record { plain = false; stats = false }) (codes "a")) (codes "1\n") ≡ []
 compile_reads_none = refl
 
-run_is_answered : answered_lines (Some input_limit) (input_for (run (record { plain = false; stats = false }) (codes "a")) (codes "1\n2")) ≡ codes "1" ∷ codes "2" ∷ []
+run_is_answered : answered_lines (Some input_limit) (input_for (run (record { plain = false; stats = false }) (codes "a")) (codes "1\n2")) ≡ codes "1" ∷ codes
+    "2" ∷ []
 unfolding input_limit
 run_is_answered = refl
 

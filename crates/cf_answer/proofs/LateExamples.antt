@@ -1,5 +1,5 @@
 -- Worked examples of sources whose coefficients are inputs: what `run` replies to a line, and what it refuses.
-use Rattle.std.proofs.Common.{◌≡◌, ap, subst, refl, ℕ, true, pos, List, [], ◌∷◌, ◌++◌, ◌-◌, ◌+◌, Ok, Err, Some, codes, arith}
+use Rattle.std.proofs.Common.{◌≡◌, ap, subst, refl, ℕ, true, pos, List, [], ◌∷◌, ◌++◌, ◌-◌, ◌+◌, Err, Some, codes, arith}
 use Rattle.std.specs.Fmt.{digits}
 use Rattle.cf_num.specs.Divisors.{gcd_by, factors_by}
 use Rattle.cf_num.specs.Limit.{limit as greatest}

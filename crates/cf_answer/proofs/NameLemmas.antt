@@ -21,7 +21,8 @@ pub heads_next : (names : List (List ℕ)) (branch : List TruthAt) (i : ℕ) (d 
     (new ≡ map (named names) (map truth_at (take (i + 1) branch))) × All IsSpelledTruth new
 heads_next names branch i d t old new lt is one before =
     let more : take (i + 1) branch ≡ take i branch ++ get_or branch i d ∷ [] = take_more branch i d lt in
-    let all : map (named names) (map truth_at (take (i + 1) branch)) ≡ map (named names) (map truth_at (take i branch)) ++ named names (truth_at (get_or branch i d)) ∷ [] =
+    let all : map (named names) (map truth_at (take (i + 1) branch)) ≡ map (named names) (map truth_at (take i branch)) ++ named names
+    (truth_at (get_or branch i d)) ∷ [] =
     ap (λ xs. map (named names) (map truth_at xs)) more
     ∙ ap (map (named names)) (map-append truth_at (take i branch) (get_or branch i d ∷ []))
     ∙ map-append (named names) (map truth_at (take i branch)) (truth_at (get_or branch i d) ∷ []) in (

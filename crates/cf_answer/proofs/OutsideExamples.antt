@@ -67,7 +67,8 @@ long-unclosed = (refl, refl, refl)
 limits : (input_limit_of Two ≡ Some input_limit) × (input_limit_of Three ≡ None)
 limits = (refl, refl)
 
-edition-of_the_first : (edition_for [] ≡ Two) × (edition_for (codes "comfusy 3\n" ∷ codes "1" ∷ []) ≡ Three) × (edition_for (codes "1" ∷ codes "comfusy 3\n" ∷ []) ≡ Two)
+edition-of_the_first : (edition_for [] ≡ Two) × (edition_for (codes "comfusy 3\n" ∷ codes "1" ∷ []) ≡ Three) ×
+    (edition_for (codes "1" ∷ codes "comfusy 3\n" ∷ []) ≡ Two)
 edition-of_the_first = (refl, refl, refl)
 
 one-past : (one_past (Some 3) ≡ Some 4) × (one_past None ≡ None)

@@ -13,14 +13,14 @@ use Rattle.cf_lex.specs.Editions.{edition_of}
 use Rattle.cf_target.specs.Spelling.{target_tree}
 use Rattle.cf_program.specs.Checked.{TypedTree}
 use Rattle.cf_form.specs.Branches.{Branch}
-use Rattle.cf_form.specs.Told.{ToldBranch, ToldChoose}
+use Rattle.cf_form.specs.Told.{ToldChoose}
 use Rattle.cf_eval.specs.Replies.{IsReply}
 use Rattle.cf_pass.specs.Passes.{Told, HaveTurned}
 use Rattle.cf_words.specs.declared.command.Flags.{Flags}
 use Rattle.cf_words.specs.Commands.{compile, run, pre, check, exec, prove, verify, gen, help, version}
 use Rattle.cf_answer.specs.About.{help_text}
 use Rattle.cf_answer.specs.Branches.{AreBranched}
-use Rattle.cf_answer.specs.Certificates.{asked_in, AreProofs, AreVerified, verified_line}
+use Rattle.cf_answer.specs.Certificates.{AreProofs, AreVerified, verified_line}
 use Rattle.cf_answer.specs.LateReplies.{AreRunsAllowed}
 use Rattle.cf_answer.specs.Owed.{by_target, by_late, IsReplyBy, AllReplied, AreReplies, ArePicked, IsCompiledBy, OwesRun, compiled, late, IsPrinted, AllWritten, ArePres, AreChecks, IsSum, sum_line, Owes}
 use Rattle.cf_answer.specs.Passes.{applied}
@@ -37,7 +37,8 @@ abbrev plain : Flags
 plain = record { plain = true; stats = false }
 
 module _ (name other source steps : List ℕ) (given last : List Told) (ls : List (List ℕ)) (text : List ℕ) where
-  of-compile : Same (Owes (compile flags name) (source ∷ []) given last ls text) ((t : RawTarget) × IsCompiledBy true source given last t × IsPrinted (edition_of source) t text)
+  of-compile : Same (Owes (compile flags name) (source ∷ []) given last ls text)
+      ((t : RawTarget) × IsCompiledBy true source given last t × IsPrinted (edition_of source) t text)
   of-compile = (λ h. h, λ h. h)
 
   of-plain_compile : Same (Owes (compile plain name) (source ∷ []) given last ls text)
@@ -61,7 +62,8 @@ module _ (name other source steps : List ℕ) (given last : List Told) (ls : Lis
       ((t : RawTarget) × IsTypedTarget source (target_tree t) × AreReplies (by_target t) ls text)
   of-exec = (λ h. h, λ h. h)
 
-  of-prove : Same (Owes (prove name) (source ∷ []) given last ls text) ((cs : List (ChooseTree × Branch)) × AreBranched source cs × AreProofs (edition_of source) cs text)
+  of-prove : Same (Owes (prove name) (source ∷ []) given last ls text)
+      ((cs : List (ChooseTree × Branch)) × AreBranched source cs × AreProofs (edition_of source) cs text)
   of-prove = (λ h. h, λ h. h)
 
   of-verify : Same (Owes (verify name other) (source ∷ steps ∷ []) given last ls text)

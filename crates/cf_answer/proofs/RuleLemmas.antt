@@ -13,7 +13,6 @@ use Rattle.cf_program.specs.TypedProgram.{IsProgramBy}
 use Rattle.cf_program.specs.declared.fault.TypeFault.{TypeFault}
 use Rattle.cf_program.specs.declared.fault.TypeFault.TheVariants as rule
 use Rattle.cf_program.specs.declared.linearity.Linearity.{Linearity}
-use Rattle.cf_program.specs.declared.linearity.Linearity.TheVariants.{Plain}
 use Rattle.cf_program.proofs.ProgramLaws.{rules_keep_types}
 use Rattle.cf_form.specs.FormAnswers.{IsFormOf, IsUnformed}
 use Rattle.cf_form.specs.declared.fault.FormFault.{FormFault}

@@ -77,10 +77,12 @@ late_run_kept edition program typed c f (broken_late p e plain h) = typed_never_
 pub run_unrefused : (calls : Bool) (source : List ℕ) (given last : List Told) (ls : List (List ℕ)) (text : List ℕ) (f : Fault) →
     OwesRun calls source given last ls text → IsRefusedRun source f → ⊥
 run_unrefused calls source given last ls text f (compiled t (c, turned) replies picked) r =
-    unrefused (of_source (edition_of source)) (IsProgram (edition_of source)) (program_of (edition_of source) 200) (IsBadRun (edition_of source)) (one_program source)
+    unrefused (of_source (edition_of source)) (IsProgram (edition_of source)) (program_of (edition_of source) 200) (IsBadRun (edition_of source))
+    (one_program source)
     source f c.1.0 (built_run (edition_of source) c.1.0 c.0 (applied calls given) (applied calls last) t c.1.2 c.2) r c.1.1
 run_unrefused calls source given last ls text f (late typed s replies allowed same) r =
-    unrefused (of_source (edition_of source)) (IsProgram (edition_of source)) (program_of (edition_of source) 200) (IsBadRun (edition_of source)) (one_program source)
+    unrefused (of_source (edition_of source)) (IsProgram (edition_of source)) (program_of (edition_of source) 200) (IsBadRun (edition_of source))
+    (one_program source)
     source f s.0 (late_run_kept (edition_of source) s.0 typed s.2) r s.1
 
 -- ---- what answers the lines
@@ -130,7 +132,8 @@ run_unruly edition text program f other is s h =
     bad_tree program f s (bad f (unruly f (subst (λ e. IsBroken e Plain program f) is h)) other)
 
 pub run_unruly_or : (edition : Edition) (text : List ℕ) (program : List RawItemTree) (f : Fault) → ((p : Place) → f ≡ fault.Rule (rule.NotLinear p) → ⊥) →
-    edition ≡ edition_of text → SpellsProgram text program → IsBroken edition Plain program f ⊎ (f ≡ fault.NoMemory) → IsRefusedRun text f ⊎ (f ≡ fault.NoMemory)
+    edition ≡ edition_of text → SpellsProgram text program → IsBroken edition Plain program f ⊎ (f ≡ fault.NoMemory) →
+    IsRefusedRun text f ⊎ (f ≡ fault.NoMemory)
 run_unruly_or edition text program f other is s (inl h) = inl (run_unruly edition text program f other is s h)
 run_unruly_or edition text program f other is s (inr memory) = inr memory
 

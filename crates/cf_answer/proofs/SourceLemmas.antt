@@ -46,7 +46,8 @@ bad_alike text program f g s (refused typed n r h b) (refused other m q i c) =
     ap refusal_status (one_refusal (all_chooses typed.defs) n m r q b there)
 
 pub sources_alike : (text : List ℕ) (f g : Fault) → IsRefusedSource text f → IsRefusedSource text g → fault_status f ≡ fault_status g
-sources_alike text f g h i = alike (of_source (edition_of text)) (IsProgram (edition_of text)) (program_of (edition_of text) 200) (IsBadProgram (edition_of text))
+sources_alike text f g h i = alike (of_source (edition_of text)) (IsProgram (edition_of text)) (program_of (edition_of text) 200)
+    (IsBadProgram (edition_of text))
     (one_program text) text (bad_alike text) f g h i
 
 -- a program whose chooses pass no limit is not refused

@@ -7,7 +7,7 @@ use Rattle.cf_linear.specs.declared.refusal.Refusal.{Refusal}
 use Rattle.cf_tree.specs.declared.base.Place.{Place}
 use Rattle.cf_lex.specs.Editions.{edition_of}
 use Rattle.cf_tree.specs.declared.base.Edition.{Edition}
-use Rattle.cf_tree.specs.declared.base.Edition.TheVariants.{Two, Three}
+use Rattle.cf_tree.specs.declared.base.Edition.TheVariants.{Three}
 use Rattle.cf_tree.specs.DefView.{RawItemTree}
 use Rattle.cf_reader.specs.Faults.{IsFaultPlace, IsFaultPlaceOf}
 use Rattle.cf_reader.specs.Readers.{Reader}
@@ -30,7 +30,8 @@ use Rattle.cf_answer.specs.Steps.{IsVerdict, IsFormedProgram, IsFormedSource, Is
 use Rattle.cf_answer.specs.declared.fault.Fault.{Fault}
 use Rattle.cf_answer.specs.declared.fault.Fault.TheVariants as fault
 
-pub no_source_in : (edition : Edition) (text : List ℕ) (ts : List Token) (end p : Place) → edition ≡ edition_of text → HasTokens (of_source edition) text ts end at_end →
+pub no_source_in : (edition : Edition) (text : List ℕ) (ts : List Token) (end p : Place) → edition ≡ edition_of text →
+    HasTokens (of_source edition) text ts end at_end →
     ((x : List RawItemTree) → IsProgram edition x ts → ⊥) → IsFaultPlace (SomeProgram edition) ts end p → IsFaultPlaceOf (program_of edition 200) ts end p →
     IsMisspelled text (fault.Syntax p)
 no_source_in edition text ts end p is h none dead exact =
@@ -41,20 +42,24 @@ pub spelled_in : (edition : Edition) (text : List ℕ) (program : List RawItemTr
     HasTokens (of_source edition) text ts end at_end → IsProgram edition program ts → SpellsProgram text program
 spelled_in edition text program ts end is h s = subst (λ e. Spelled (of_source e) (IsProgram e) text program) is (ts, end, h, s)
 
-pub misread_byte : (edition : Edition) (text : List ℕ) (ts : List Token) (p : Place) → edition ≡ edition_of text → HasTokens (of_source edition) text ts p bad_byte →
+pub misread_byte : (edition : Edition) (text : List ℕ) (ts : List Token) (p : Place) → edition ≡ edition_of text →
+    HasTokens (of_source edition) text ts p bad_byte →
     IsMisspelled text (fault.BadByte p)
 misread_byte edition text ts p is h = subst (λ e. Causes (of_source e) (IsProgram e) (program_of e 200) (λ x f. ⊥) text (fault.BadByte p)) is (odd_byte ts p h)
 
-pub misread_number : (edition : Edition) (text : List ℕ) (ts : List Token) (p : Place) → edition ≡ edition_of text → HasTokens (of_source edition) text ts p past_limit →
+pub misread_number : (edition : Edition) (text : List ℕ) (ts : List Token) (p : Place) → edition ≡ edition_of text →
+    HasTokens (of_source edition) text ts p past_limit →
     IsMisspelled text (fault.NumberPast p)
 misread_number edition text ts p is h =
     subst (λ e. Causes (of_source e) (IsProgram e) (program_of e 200) (λ x f. ⊥) text (fault.NumberPast p)) is (large_number ts p h)
 
 pub target_in : (edition : Edition) (text : List ℕ) (t : TargetTree) (ts : List Token) (end : Place) → edition ≡ edition_of text →
-    HasTokens (of_target (edition_of text)) text ts end at_end → IsTarget edition t ts → Spelled (of_target (edition_of text)) (IsTarget (edition_of text)) text t
+    HasTokens (of_target (edition_of text)) text ts end at_end → IsTarget edition t ts →
+    Spelled (of_target (edition_of text)) (IsTarget (edition_of text)) text t
 target_in edition text t ts end is h s = (ts, end, h, subst (λ e. IsTarget e t ts) is s)
 
-pub no_target : (edition : Edition) (text : List ℕ) (ts : List Token) (end p : Place) → edition ≡ edition_of text → HasTokens (of_target (edition_of text)) text ts end at_end →
+pub no_target : (edition : Edition) (text : List ℕ) (ts : List Token) (end p : Place) → edition ≡ edition_of text →
+    HasTokens (of_target (edition_of text)) text ts end at_end →
     ((x : TargetTree) → IsTarget edition x ts → ⊥) → IsFaultPlace (SomeTarget edition) ts end p → IsFaultPlaceOf (target_of edition 500) ts end p →
     IsRefusedTarget text (fault.Syntax p)
 no_target edition text ts end p is h none dead exact =
@@ -71,7 +76,8 @@ pub build_refused : (text : List ℕ) (typed : TypedTree) (f : BuildFault) → I
 build_refused text typed (build.Choose n r) s h = inl (choose_refused text typed n r s h)
 build_refused text typed build.NoMemory s h = inr refl
 
-pub target_untyped : (text : List ℕ) (t : TargetTree) → Spelled (of_target (edition_of text)) (IsTarget (edition_of text)) text t → (IsTypedTree t → ⊥) → IsRefusedTarget text fault.BadTarget
+pub target_untyped : (text : List ℕ) (t : TargetTree) → Spelled (of_target (edition_of text)) (IsTarget (edition_of text)) text t → (IsTypedTree t → ⊥) →
+    IsRefusedTarget text fault.BadTarget
 target_untyped text t s h = bad_tree t fault.BadTarget s (untyped h)
 
 -- a text is refused for more where more is bad

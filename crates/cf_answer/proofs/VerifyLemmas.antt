@@ -26,7 +26,6 @@ use Rattle.cf_answer.specs.declared.fault.StepsFault.TheVariants as steps_fault
 use Rattle.cf_answer.specs.declared.status.Status.{Status}
 use Rattle.cf_answer.specs.declared.status.Status.TheVariants.{File, NoMemory}
 use Rattle.cf_program.specs.Checked.{TypedTree}
-use Rattle.cf_match.specs.declared.lowered.LoweredParts.{LoweredParts}
 use Rattle.cf_tree.specs.ChooseTree.{ChooseTree}
 use Rattle.cf_cases.specs.Holding.{EachOf}
 use Rattle.cf_steps.specs.Blocks.{BlockTree}
@@ -37,7 +36,6 @@ use Rattle.cf_cert.specs.declared.verdict.Verdict.TheVariants.{Yes, Rejected}
 use Rattle.cf_cert.specs.declared.verdict.Why.{Why}
 use Rattle.std.specs.Str.{bytes_eq}
 use Rattle.std.proofs.lemmas.Slice.Eq.{bytes_eq-Decides}
-use Rattle.cf_cert.specs.declared.verdict.Why.TheVariants.{Blocks}
 use Rattle.cf_form.specs.Branches.{Branch}
 use Rattle.cf_form.specs.Told.{ToldChoose}
 use Rattle.cf_steps.specs.declared.block.NamedTruth.{NamedTruth}
@@ -87,7 +85,11 @@ module _ (file steps : List ℕ) (given : List Told) where
         fetches = omega (arith, f.fetched);
         given = omega (arith, f.given, less);
         ends = omega (arith, f.ends);
-        file = elim f.front [ inl same ↦ inl same | inr took ↦ inr (file, file_among, took_less text_limit most (before.shelf.texts file) after.shelf.left less took) ];
+        file = elim f.front [
+          | inl same ↦ inl same
+          | inr took ↦ inr
+              (file, file_among, took_less text_limit most (before.shelf.texts file) after.shelf.left less took)
+        ];
         input = none_read (input_most (source ∷ [])) before after none;
       }
 
@@ -153,7 +155,8 @@ module _ (file steps : List ℕ) (given : List Told) where
   }
 
   -- a fault that names no object
-  inner_does : (before after : Outside) (source text : List ℕ) (f : Fault) → AreTold (before.shelf.texts file) source → AreTold (before.shelf.texts steps) text →
+  inner_does : (before after : Outside) (source text : List ℕ) (f : Fault) → AreTold (before.shelf.texts file) source →
+      AreTold (before.shelf.texts steps) text →
       Ends (job_on source text) before.streams after.streams (Err f) → Frugal source before after → Untouched before after →
       NoneFailed before.shelf after.shelf → (failed f ≡ Err fault.File → ⊥) → (failed f ≡ Err fault.Input → ⊥) → (failed f ≡ Err fault.Output → ⊥) →
       Verifies before after (Err f)
@@ -161,12 +164,14 @@ module _ (file steps : List ℕ) (given : List Told) where
       ended_does before after source text (Err f) s t ends frugal same not_file (no_input_fault before after none not_input)
       (no_out_fault before after none not_out)
 
-  refused_does : (before after : Outside) (source text : List ℕ) (f : Fault) → AreTold (before.shelf.texts file) source → AreTold (before.shelf.texts steps) text →
+  refused_does : (before after : Outside) (source text : List ℕ) (f : Fault) → AreTold (before.shelf.texts file) source →
+      AreTold (before.shelf.texts steps) text →
       IsUnverified source text f → Frugal source before after → Untouched before after → NoneFailed before.shelf after.shelf →
       Verifies before after (Err f)
   refused_does before after source text f s t h frugal none same =
       let is : IsTextFault f = refused_fault (verify file steps) (source ∷ text ∷ []) f h in
-      inner_does before after source text f s t (refused_ends (job_on source text) before.streams after.streams f is h (none_written before after none)) frugal none
+      inner_does before after source text f s t (refused_ends (job_on source text) before.streams after.streams f is h (none_written before after none)) frugal
+      none
       same
       (λ e. let this : f ≡ fault.File = cc in subst IsTextFault this is) (λ e. let this : f ≡ fault.Input = cc in subst IsTextFault this is)
       (λ e. let this : f ≡ fault.Output = cc in subst IsTextFault this is)
@@ -184,7 +189,8 @@ module _ (file steps : List ℕ) (given : List Told) where
   source_does before after f fetched none (file_failed is rose) =
       let source = left_of (before.shelf.texts file) in
       subst (λ g. Verifies before after (Err g)) (sym is)
-      (failed_does before after source file (left_told (before.shelf.texts file)) file_among (one_frugal source before after fetched none) none rose fetched.once)
+      (failed_does before after source file (left_told (before.shelf.texts file)) file_among (one_frugal source before after fetched none) none rose
+      fetched.once)
   source_does before after f fetched none (broken_file (text, told, broken) same) =
       refused_does before after text (left_of (before.shelf.texts steps)) f told (left_told (before.shelf.texts steps)) (bad_source f broken)
       (one_frugal text before after fetched none) none same
@@ -226,7 +232,8 @@ module _ (file steps : List ℕ) (given : List Told) where
         AnswersOn (verify file steps) given given (source ∷ text ∷ []) before.streams after.streams answer → NoneFailed mid after.shelf →
         Verifies before after answer
     checked_does text answer t h same =
-        ended_does before after source text answer told t h.ends (two_frugal source before after mid first second h.sparing) (both_sound same) h.not_file h.input
+        ended_does before after source text answer told t h.ends (two_frugal source before after mid first second h.sparing) (both_sound same) h.not_file
+        h.input
         h.out
 
 -- ---- which file was read
@@ -252,7 +259,8 @@ source_rose name before after f (broken_file (text, told, broken) same) e =
 source_rose name before after f (no_room is same) e = cc
 
 -- only the source was fetched, and only it may have failed
-pub source_in_order : (file steps : List ℕ) (before after : ShelfSeen) (f : Fault) → IsFetched text_limit file before after → IsSourceFault file before after f →
+pub source_in_order : (file steps : List ℕ) (before after : ShelfSeen) (f : Fault) → IsFetched text_limit file before after →
+    IsSourceFault file before after f →
     AreFetched file steps before after (status_of (failed f))
 source_in_order file steps before after f fetched h =
     source_alone (omega (arith, fetched.fetched)) (λ is. source_rose file before after f h (is_file (failed f) is))

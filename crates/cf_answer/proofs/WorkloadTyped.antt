@@ -14,7 +14,7 @@ use Rattle.cf_tree.specs.declared.raw.BinOp.{BinOp}
 use Rattle.cf_tree.specs.declared.raw.BinOp.TheVariants.{Add, Mul, And, Compare}
 use Rattle.cf_tree.specs.declared.raw.Param.{Param}
 use Rattle.cf_tree.specs.declared.base.Edition.TheVariants.{Two}
-use Rattle.cf_tree.specs.DefView.{RawDefTree, RawItemTree, item_def, DefTree}
+use Rattle.cf_tree.specs.DefView.{RawDefTree, item_def, DefTree}
 use Rattle.cf_tree.specs.ExprTree.{ExprTree, expr_lit, expr_var, expr_binary, expr_let, expr_choose}
 use Rattle.cf_tree.specs.RawTree.{RawTree, raw_binary}
 use Rattle.cf_tree.specs.RelTree.{RelTree, term_lit, term_var, term_add, term_mul, rel_compare, rel_and}
@@ -22,13 +22,13 @@ use Rattle.cf_tree.specs.Typing.{one}
 use Rattle.cf_tree.proofs.SetLemmas.{on_bool}
 use Rattle.cf_program.specs.declared.fault.TypeFault.{TypeFault}
 use Rattle.cf_program.specs.declared.linearity.Linearity.TheVariants.{Plain}
-use Rattle.cf_program.specs.Checked.{TypedTree, def_form, functions_of, walk_def, walk_items, main_from, sized, with_main, checked}
+use Rattle.cf_program.specs.Checked.{TypedTree, def_form, functions_of, walk_def, walk_items, main_from, sized, checked}
 use Rattle.cf_program.specs.Lowered.{lowered}
 use Rattle.cf_program.specs.Names.{Callee, is_among, callee, callee_from}
 use Rattle.cf_tree.specs.Params.{bases_of}
 use Rattle.cf_program.specs.Reading.{Reading, relation, term, not_linear, binary_reading}
 use Rattle.cf_program.specs.Size.{weight_in, depth_in, measured, weights, depths}
-use Rattle.cf_program.specs.Walk.{Form, Forms, binary_form, call_form, Context, behind, by_edition, walk}
+use Rattle.cf_program.specs.Walk.{Form, Forms, binary_form, call_form, Context, behind, walk}
 use Rattle.cf_program.specs.Then.{◌>>=◌}
 use Rattle.cf_program.proofs.SizeLemmas.{none_above}
 use Rattle.cf_lex.specs.Digits.{digits_value}

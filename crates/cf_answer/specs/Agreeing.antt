@@ -1,5 +1,5 @@
 -- How the commands agree with each other.
-use Rattle.std.specs.Prelude.{◌≡◌, ◌≤◌, ℕ, List, [], ◌∷◌, length}
+use Rattle.std.specs.Prelude.{◌≤◌, ℕ, List, [], ◌∷◌, length}
 use Rattle.cf_tree.specs.ChooseTree.{ChooseTree}
 use Rattle.cf_tree.specs.Solving.{HoldSomewhere}
 use Rattle.cf_tree.specs.Values.{Value, HaveBases}

@@ -3,7 +3,6 @@ use Rattle.std.specs.Prelude.{◌≡◌, ◌==◌, ℕ, suc, Bool, true, false, 
 use Rattle.std.specs.Str.{bytes_eq}
 use Rattle.cf_tree.specs.ChooseTree.{ChooseTree}
 use Rattle.cf_tree.specs.Words.{truth_text}
-use Rattle.cf_tree.specs.declared.base.Edition.{Edition}
 use Rattle.cf_program.specs.Checked.{TypedTree}
 use Rattle.cf_build.specs.Chooses.{all_chooses, by_number}
 use Rattle.cf_form.specs.Branches.{Branch}

@@ -23,7 +23,7 @@ use Rattle.cf_words.specs.Commands.{Command, compile, run, pre, check, exec, pro
 use Rattle.cf_answer.specs.About.{help_text, version_text}
 use Rattle.cf_form.specs.Branches.{Branch}
 use Rattle.cf_answer.specs.Branches.{AreBranched, valued}
-use Rattle.cf_answer.specs.Certificates.{asked_in, AreProofs, AreVerified, verified_line}
+use Rattle.cf_answer.specs.Certificates.{AreProofs, AreVerified, verified_line}
 use Rattle.cf_answer.specs.Checks.{AreChecksBehind}
 use Rattle.cf_answer.specs.LateReplies.{IsLateReply, AreRunsAllowed}
 use Rattle.cf_answer.specs.Passes.{AreCalled, applied}

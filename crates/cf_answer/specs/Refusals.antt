@@ -6,7 +6,7 @@ use Rattle.cf_lex.specs.Editions.{edition_of}
 use Rattle.cf_lex.specs.Tokens.{bad_byte, past_limit, at_end}
 use Rattle.cf_tree.specs.declared.base.Place.{Place}
 use Rattle.cf_tree.specs.declared.base.Edition.{Edition}
-use Rattle.cf_tree.specs.declared.base.Edition.TheVariants.{Two, Three}
+use Rattle.cf_tree.specs.declared.base.Edition.TheVariants.{Three}
 use Rattle.cf_tree.specs.ChooseTree.{ChooseTree}
 use Rattle.cf_tree.specs.DefView.{RawItemTree}
 use Rattle.cf_reader.specs.Faults.{IsFaultPlace, IsFaultPlaceOf}

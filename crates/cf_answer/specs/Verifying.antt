@@ -9,7 +9,6 @@ use Rattle.cf_form.specs.Told.{ToldChoose}
 use Rattle.cf_form.specs.ToldView.{told_choose}
 use Rattle.cf_form.specs.declared.formed.FormedParts.{FormedParts}
 use Rattle.cf_lex.specs.Editions.{edition_of}
-use Rattle.cf_program.specs.Checked.{TypedTree}
 use Rattle.cf_tree.specs.ChooseTree.{ChooseTree}
 use Rattle.cf_steps.specs.Blocks.{BlockTree}
 use Rattle.cf_steps.specs.Printed.{blocks_text}
@@ -25,7 +24,7 @@ use Rattle.cf_answer.specs.Outside.{AreTold}
 use Rattle.cf_answer.specs.Refusals.{IsBrokenSource, IsRefusedSteps}
 use Rattle.cf_tree.specs.declared.base.Edition.{Edition}
 use Rattle.cf_tree.specs.declared.base.Edition.TheVariants.{Two, Three}
-use Rattle.cf_answer.specs.Sources.{AreToldOf, Spelled, IsTypedSource, IsLoweredSource}
+use Rattle.cf_answer.specs.Sources.{AreToldOf, Spelled, IsLoweredSource}
 use Rattle.cf_answer.specs.declared.source.ToldProgram.{ToldProgram}
 use Rattle.cf_answer.specs.declared.fault.Fault.{Fault}
 use Rattle.cf_answer.specs.declared.fault.Fault.TheVariants as fault

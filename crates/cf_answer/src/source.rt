@@ -279,7 +279,8 @@ fn late_runner(
 // A program that is not linear, as a late one with the forms of language 2.
 fn late(alloc: Global, edition: Edition, program: &Program) -> Result<Late, Fault>
     requires { IsSpelledProgram edition (program_tree program.now) }
-    ensures { IsVerdict (λ x. IsTypedBy edition LateRule (program_tree program.now) (typed_tree x)) (IsBroken edition LateRule (program_tree program.now)) result }
+    ensures { IsVerdict (λ x. IsTypedBy edition LateRule (program_tree program.now) (typed_tree x)) (IsBroken edition LateRule (program_tree program.now))
+        result }
 {
     match edition {
         Edition::Two => checked_late(alloc, program),

@@ -21,7 +21,8 @@ pub fn lexed(alloc: Global, edition: Edition, text: &[u8]) -> Result<TokenList, 
         HasTokens kind text.now list.list.items list.end at_end) }
     ensures within { IfOk result (λ list. AreWithin (2 ^ 127 - 1) list.list.items) }
     ensures source { IfErr result (λ f. edition ≡ edition_of text.now → length text.now ≤ text_limit → IsMisspelled text.now f ⊎ (f ≡ Fault.NoMemory)) }
-    ensures target { IfErr result (λ f. edition ≡ Two → length text.now ≤ most_of (of_target (edition_of text.now)) → IsRefusedTarget text.now f ⊎ (f ≡ Fault.NoMemory)) }
+    ensures target { IfErr result (λ f. edition ≡ Two → length text.now ≤ most_of (of_target (edition_of text.now)) →
+        IsRefusedTarget text.now f ⊎ (f ≡ Fault.NoMemory)) }
 {
     match tokens(alloc, edition, text) {
         Ok(list) => Ok(list),

@@ -1,5 +1,5 @@
 -- The form of a choose allows what the choose of the source does.
-use Rattle.std.proofs.Common.{◌≡◌, ◌↔◌, ℕ, suc, ◌+◌, pos, Bool, true, false, Some, List, [], ◌∷◌, ◌++◌, length, map, slice_get, append-nil, append_assoc, refl, sym, ap, ◌∙◌, subst}
+use Rattle.std.proofs.Common.{◌≡◌, ◌↔◌, ℕ, suc, pos, Bool, true, false, Some, List, [], ◌∷◌, ◌++◌, length, map, slice_get, append-nil, append_assoc, refl, sym, ap, ◌∙◌, subst}
 use Rattle.std.specs.Bool.{MatchBool}
 use Rattle.std.specs.Prelude.{if◌then◌else◌}
 use Rattle.std.proofs.lemmas.List.{map-append}

@@ -25,7 +25,7 @@ use Rattle.cf_form.proofs.Lists.{rec_append}
 map_at : {X Y : Type 0} (f : X → Y) (xs : List X) (i : ℕ) (x : X) → i < length xs → x ≡ get_or xs i x → map f (take (i + 1) xs) ≡ map f (take i xs) ++ f x ∷ []
 map_at f xs i x l e = map_more f xs i x l ∙ ap (λ y. map f (take i xs) ++ f y ∷ []) (sym e)
 
-from_here : {X : Type 0} (xs : List X) (i : ℕ) (d : X) → i < length xs → drop i xs ≡ get_or xs i d ∷ drop (i + 1) xs
+pub from_here : {X : Type 0} (xs : List X) (i : ℕ) (d : X) → i < length xs → drop i xs ≡ get_or xs i d ∷ drop (i + 1) xs
 from_here xs i d l = subst (λ k. drop i xs ≡ get_or xs i d ∷ drop k xs) (sym (add-one i)) (drop-cons xs i d l)
 
 exprs_push : (es : List ExprTree) (e : ExprTree) → chooses_in_all (exprs_of (es ++ e ∷ [])) ≡ chooses_in_all (exprs_of es) ++ chooses_in e
@@ -77,7 +77,7 @@ arm_found before arms i a old now new l is h g =
     subst (AreFound before old new) (sym all) (found_two before old now new _ _ h g)
 
 -- those of a function come before those of the functions behind it
-wide_next : (before : List DefTree) (d : DefTree) (ds : List DefTree) →
+pub wide_next : (before : List DefTree) (d : DefTree) (ds : List DefTree) →
     wide_behind before (d ∷ ds) ≡ map (wide_choose (calls_of before)) (chooses_in d.body) ++ wide_behind (before ++ d ∷ []) ds
 wide_next before d ds =
     map-append (λ q. wide_choose (call_expanded q.0) q.1) _ (chooses_behind (before ++ d ∷ []) ds) ∙

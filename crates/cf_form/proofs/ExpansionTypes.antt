@@ -1,5 +1,5 @@
 -- The parts of a typed expression are typed.
-use Rattle.std.proofs.Common.{◌≡◌, ℕ, zero, suc, ◌+◌, ◌==◌, pos, Bool, true, false, Some, List, [], ◌∷◌, ◌++◌, length, map, slice_get, MatchBool, refl, ap, subst}
+use Rattle.std.proofs.Common.{◌≡◌, ℕ, zero, suc, ◌==◌, pos, Bool, true, false, Some, List, [], ◌∷◌, ◌++◌, length, map, slice_get, MatchBool, refl, ap, subst}
 use Rattle.std.specs.Prelude.{if◌then◌else◌}
 use Rattle.std.specs.List.{slice_index_or}
 use Rattle.std.proofs.lemmas.List.{length-map}

@@ -5,7 +5,7 @@ use Rattle.cf_tree.specs.declared.base.Order.{Order}
 use Rattle.cf_tree.specs.declared.expr.Expr.{Expr}
 use Rattle.cf_tree.specs.declared.expr.MatchArm.{MatchArm}
 use Rattle.cf_tree.specs.declared.memory.NoMemory.{NoMemory}
-use Rattle.cf_tree.specs.ExprTree.{ExprTree, expr_tuple, expr_let, expr_chain, ExprTrees, no_exprs, expr_more, exprs_of, MatchArmTree, match_arm, MatchArmTrees, match_arm_more, match_arms_of}
+use Rattle.cf_tree.specs.ExprTree.{ExprTree, expr_tuple, expr_let, expr_chain, ExprTrees, no_exprs, expr_more, exprs_of, MatchArmTree, match_arm, match_arm_more, match_arms_of}
 use Rattle.cf_tree.specs.ExprView.{expr_tree, expr_trees, match_arm_tree, match_arm_trees}
 use Rattle.cf_form.specs.Expansion.{Calls}
 use Rattle.cf_form.specs.Formed.{chain_body, best_body, how_many, formed, all_formed, arms_formed}

@@ -15,6 +15,11 @@ mod CountLaws
 mod ExpansionExamples
 pub mod ExpansionLaws
 pub mod ExpansionTypes
+mod FloorChoose
+mod FloorExamples
+mod FloorForms
+mod FloorLaws
+mod FloorSteps
 pub mod FoldLaws
 mod FoldSteps
 mod FormSteps
@@ -48,6 +53,7 @@ pub mod PolarityLaws
 pub mod PolarityTypes
 mod RelationExamples
 pub mod SaidBy
+mod SaturatedLaws
 pub mod ScopeLaws
 pub mod SourceLaws
 pub mod SourceLinear

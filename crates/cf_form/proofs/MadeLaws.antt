@@ -1,11 +1,8 @@
 -- What is made of the functions of a source is a program of its forms.
-use Rattle.std.proofs.Common.{◌≡◌, ◌⊎◌, inl, inr, ℕ, Option, Some, None, Result, Ok, Err, IfOk, IfErr, List, [], ◌∷◌, ◌++◌, map, refl, sym, ap, ◌∙◌, subst}
-use Rattle.std.specs.Prelude.{MatchOption, All}
-use Rattle.std.specs.List.{AllByRecursion}
+use Rattle.std.proofs.Common.{◌≡◌, ◌⊎◌, inl, inr, ℕ, Option, Some, None, Result, Ok, Err, List, [], ◌∷◌, map, refl, sym, ◌∙◌, subst}
+use Rattle.std.specs.Prelude.{MatchOption}
 use Rattle.cf_tree.specs.DefView.{DefTree, def_tree}
-use Rattle.cf_program.specs.Checked.{TypedTree}
 use Rattle.cf_program.specs.Size.{weights, depths, first_above}
-use Rattle.cf_program.specs.Typed.{typed_tree}
 use Rattle.cf_program.specs.TypedProgram.{IsProgramBy}
 use Rattle.cf_program.specs.TypedSource.{IsSourceBy}
 use Rattle.cf_program.specs.LateLinear.{IsLinearBy}

@@ -1,15 +1,13 @@
 -- Worked examples that hold down where the numbers of a formed program stand, and which may be the same.
 use Rattle.std.specs.Prelude.{ℕ, pos, ◌≡◌, true, false, Some, None, List, [], ◌∷◌, codes, refl}
-use Rattle.cf_tree.specs.declared.base.Base.{Base}
-use Rattle.cf_tree.specs.declared.base.Base.TheVariants.{Int, Bool as Truth, Set}
+use Rattle.cf_tree.specs.declared.base.Base.TheVariants.{Int, Set}
 use Rattle.cf_tree.specs.declared.base.Order.TheVariants.{Eq}
 use Rattle.cf_tree.specs.declared.raw.BinOp.TheVariants.{Add, Compare}
-use Rattle.cf_tree.specs.declared.raw.Param.{Param}
 use Rattle.cf_tree.specs.DefView.{DefTree}
 use Rattle.cf_tree.specs.ExprTree.{ExprTree, expr_lit, expr_truth, expr_var, expr_set_of, expr_tuple, expr_neg, expr_not, expr_abs, expr_binary, expr_divides, expr_div, expr_mod, expr_card, expr_if, expr_call, expr_let, expr_choose, expr_match, expr_chain, expr_min, expr_max, expr_choose_where, exprs_of, match_arm, match_arms_of, no_match_arms, holds_always, at_any}
 use Rattle.cf_tree.specs.RelTree.{rel_true, rel_false}
 use Rattle.cf_form.specs.Branches.{Branch}
-use Rattle.cf_form.specs.Numbers.{PlacedNumber, other_number, choose_number, placed, placed_from, AreApart, AreBranches, ShareByBranch}
+use Rattle.cf_form.specs.Numbers.{PlacedNumber, other_number, choose_number, placed, placed_from, AreApart, ShareByBranch}
 
 -- a choose of a number, with the relations of two branches
 abbrev one : ℕ → ExprTree

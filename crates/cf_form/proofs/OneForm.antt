@@ -1,6 +1,6 @@
 -- A source has one program of the forms of language 2, or is refused one, and not both.
 use Rattle.std.proofs.Common.{◌≡◌, ◌∙◌, ap, sym, subst, refl, ℕ, suc, ◌≤◌, true, List, [], ◌∷◌, All, Some, None, arith}
-use Rattle.std.specs.Prelude.{nat_le, Option}
+use Rattle.std.specs.Prelude.{nat_le}
 use Rattle.std.proofs.lemmas.Bool.Decides.{nat_tests}
 use Rattle.std.proofs.lemmas.List.Elements.{All-head, All-tail}
 use Rattle.cf_program.specs.Checked.{TypedTree}

@@ -11,7 +11,7 @@ use Rattle.cf_tree.specs.declared.raw.BinOp.TheVariants.{And, Compare}
 use Rattle.cf_tree.specs.Allowed.{AllowedRight, AllowedIn, Gives, chained, best_of, Calling}
 use Rattle.cf_tree.specs.ExprTree.{ExprTree, expr_truth, expr_var, expr_binary}
 use Rattle.cf_tree.specs.OneOutcome.{AllowsOnly}
-use Rattle.cf_tree.specs.Values.{Value, number, truth, compared, values, value_at}
+use Rattle.cf_tree.specs.Values.{Value, number, truth, compared, value_at}
 use Rattle.cf_tree.proofs.OneOutcomeLemmas.{then_only}
 use Rattle.cf_tree.proofs.SetLemmas.{lt_is, lt_not}
 use Rattle.cf_form.specs.Formed.{comparisons, chain_body, pick, picked_from, best_body}

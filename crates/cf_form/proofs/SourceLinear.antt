@@ -1,6 +1,6 @@
 -- The parts of a linear expression are linear, and hold no more than it is said to hold.
-use Rattle.std.proofs.Common.{◌≡◌, ℕ, zero, suc, ◌+◌, Bool, true, false, ◌&&◌, ◌||◌, ◌==◌, pos, Option, Some, None, List, [], ◌∷◌, ◌++◌, length, map, MatchBool, get_or, refl, sym, ap, subst, ◌∙◌, arith, length-append}
-use Rattle.std.specs.Prelude.{nat_lt, if◌then◌else◌, IsTrue}
+use Rattle.std.proofs.Common.{◌≡◌, ℕ, zero, suc, Bool, true, false, ◌&&◌, ◌||◌, ◌==◌, pos, Option, Some, None, List, [], ◌∷◌, ◌++◌, length, map, MatchBool, get_or, refl, sym, ap, subst, ◌∙◌, arith, length-append}
+use Rattle.std.specs.Prelude.{nat_lt, if◌then◌else◌}
 use Rattle.std.specs.List.{slice_index_or}
 use Rattle.std.proofs.lemmas.Bool.Decides.{nat_tests}
 use Rattle.std.proofs.lemmas.List.{length-map}
@@ -16,9 +16,9 @@ use Rattle.cf_tree.specs.Params.{bases_of}
 use Rattle.cf_tree.proofs.BaseLemmas.{both, both_true}
 use Rattle.cf_program.specs.Linear.{Held, is_constant, is_known, is_unknown, most, most_of, both_hold}
 use Rattle.cf_program.specs.LinearTrees.{◌then◌, one_holds, product_holds, operation_holds, holds, parts_hold, call_holds}
-use Rattle.cf_program.specs.TypedProgram.{LinearBehind, AreSides, ExprHasBasesBy, AllHaveBy, PartsHaveBy, Takes, AreTypedDefsBy}
+use Rattle.cf_program.specs.TypedProgram.{LinearBehind, ExprHasBasesBy, PartsHaveBy, Takes, AreTypedDefsBy}
 use Rattle.cf_program.specs.Walk.{side_of, result_of}
-use Rattle.cf_form.specs.Expansion.{Part, of_number, of_set, of_truth, number_in, set_in, truth_in, first_part, numbers_in, truth_part, variable_part, variables_from, sets_compared, truths_compared, compared_part, binary_part, if_part, if_parts, Calls, expanded, all_expanded, call_expanded}
+use Rattle.cf_form.specs.Expansion.{Part, of_number, of_set, of_truth, number_in, set_in, truth_in, first_part, numbers_in, truth_part, sets_compared, truths_compared, compared_part, binary_part, if_part, if_parts, Calls, expanded, all_expanded, call_expanded}
 use Rattle.cf_form.specs.Laws.{bodies}
 use Rattle.cf_form.specs.LinearWide.{is_held_below, are_held_below, IsLinearWideTerm, AreLinearWideTerms, IsLinearWideSet, IsLinearWide}
 use Rattle.cf_form.specs.Wide.{WideTerm, wide_lit, wide_var, wide_card, wide_neg, wide_add, wide_sub, wide_mul, wide_div, wide_mod, wide_abs, wide_if, wide_min, wide_max, WideTerms, no_wides, wide_more, WideSet, wide_empty, WideRel, wide_chain}

@@ -7,7 +7,6 @@ use Rattle.cf_tree.specs.RelTree.{rel_and, rel_compare, rel_not, rel_or, rel_sam
 use Rattle.cf_tree.specs.declared.base.Order.TheVariants.{Eq, Ge, Gt, Le}
 use Rattle.cf_tree.specs.declared.raw.BinOp.TheVariants.{And, Compare, Implies, Or}
 use Rattle.cf_tree.specs.declared.raw.Param.{Param}
-use Rattle.cf_form.specs.Branches.{branches, parameters}
 use Rattle.cf_form.specs.Told.{ToldChoose, all_told}
 
 abbrev v : List ℕ → Base → Param

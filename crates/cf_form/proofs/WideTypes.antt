@@ -1,5 +1,5 @@
 -- Typed wide forms: variables with their bases, numbers within the limit, and divisors.
-use Rattle.std.proofs.Common.{◌≡◌, ℕ, Bool, true, false, ◌||◌, Some, List, [], slice_get, refl}
+use Rattle.std.proofs.Common.{◌≡◌, ℕ, Bool, true, false, ◌||◌, Some, List, slice_get, refl}
 use Rattle.std.proofs.lemmas.Bool.{eq-eqb}
 use Rattle.cf_num.specs.Limit.{IsWithin}
 use Rattle.cf_tree.specs.declared.base.Base.{Base}

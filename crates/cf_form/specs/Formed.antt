@@ -5,8 +5,7 @@ use Rattle.cf_tree.specs.declared.base.Base.TheVariants.{Int, Bool as Truth, Set
 use Rattle.cf_tree.specs.declared.base.Order.{Order}
 use Rattle.cf_tree.specs.declared.base.Order.TheVariants.{Le, Ge}
 use Rattle.cf_tree.specs.declared.raw.BinOp.{BinOp}
-use Rattle.cf_tree.specs.declared.raw.BinOp.TheVariants.{Add, Sub, Mul, And, Or, Implies, Union, Inter, Diff, Subset, Compare}
-use Rattle.cf_tree.specs.declared.raw.Param.{Param}
+use Rattle.cf_tree.specs.declared.raw.BinOp.TheVariants.{And, Or, Implies, Compare}
 use Rattle.cf_tree.specs.DefView.{DefTree}
 use Rattle.cf_tree.specs.ExprTree.{ExprTree, expr_lit, expr_truth, expr_var, expr_set_of, expr_tuple, expr_neg, expr_not, expr_abs, expr_binary, expr_divides, expr_div, expr_mod, expr_card, expr_if, expr_call, expr_let, expr_choose, expr_match, expr_chain, expr_min, expr_max, expr_choose_where, ExprTrees, no_exprs, expr_more, exprs_of, match_arm, MatchArmTrees, no_match_arms, match_arm_more, GivenExpr, holds_always, holds_where, AimExpr, at_any, at_least, at_greatest}
 use Rattle.cf_tree.specs.Params.{bases_of}

@@ -1,5 +1,5 @@
 -- What a program of edition 3 keeps in which no rule is broken, and what its formed program does.
-use Rattle.std.specs.Prelude.{ℕ, ◌≤◌, ◌≡◌, nat_eq, Option, Some, None, List, [], length, map, reverse, slice_get, codes, All}
+use Rattle.std.specs.Prelude.{ℕ, ◌≤◌, ◌≡◌, nat_eq, Option, Some, None, List, length, map, reverse, slice_get, codes, All}
 use Rattle.std.specs.List.{IsDistinct}
 use Rattle.cf_tree.specs.DefView.{DefTree}
 use Rattle.cf_tree.specs.ExprTree.{at_any}

@@ -3,6 +3,7 @@ pub mod Atoms
 pub mod Branches
 pub mod Counted
 pub mod Expansion
+pub mod Floor
 pub mod Folding
 pub mod FormAnswers
 pub mod FormShapes
@@ -18,6 +19,7 @@ pub mod Occurs
 pub mod Passed
 pub mod Polarity
 pub mod Relations
+pub mod Saturated
 pub mod SourceChooses
 pub mod Telling
 pub mod Told

@@ -9,7 +9,7 @@ use Rattle.cf_form.specs.declared.made.Made.{Made}
 use Rattle.cf_form.specs.Branches.{WideChoose}
 use Rattle.cf_form.specs.FormAnswers.{AreNarrow, IsUnformed}
 use Rattle.cf_form.specs.Formed.{formed_defs}
-use Rattle.cf_form.specs.Told.{ToldChoose, told, wide_chooses}
+use Rattle.cf_form.specs.Told.{told, wide_chooses}
 use Rattle.cf_form.specs.ToldView.{told_choose}
 
 -- no function passes a limit

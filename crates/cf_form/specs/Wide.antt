@@ -1,6 +1,6 @@
 -- Wide relations: relations, number forms and set forms as they stand in a source once its lets and calls are expanded. They are those of a lowered choose, and
 -- beside them truth variables, `if`, `min`, `max`, chains, `==>`, and `==` and `!=` of truth values.
-use Rattle.std.specs.Prelude.{ℕ, ℤ, nat_lt, Bool, true, false, ◌&&◌, ◌||◌, ◌==◌, List}
+use Rattle.std.specs.Prelude.{ℕ, ℤ, Bool, true, false, ◌&&◌, ◌||◌, ◌==◌, List}
 use Rattle.cf_tree.specs.declared.base.Order.{Order}
 
 mutual

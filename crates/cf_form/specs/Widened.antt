@@ -1,5 +1,5 @@
 -- Bodies of language 2 as edition 3 reads them: each relation as the expression that spells it.
-use Rattle.std.specs.Prelude.{true, false, List, [], ◌++◌, All}
+use Rattle.std.specs.Prelude.{true, false, [], ◌++◌, All}
 use Rattle.cf_tree.specs.declared.base.Order.TheVariants.{Eq, Ne}
 use Rattle.cf_tree.specs.declared.raw.BinOp.{BinOp}
 use Rattle.cf_tree.specs.declared.raw.BinOp.TheVariants.{Add, Sub, Mul, And, Or, Implies, Union, Inter, Diff, Subset, Compare}

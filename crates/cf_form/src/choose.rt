@@ -175,8 +175,8 @@ fn wide_truth(
     truth_in(alloc, first)
 }
 
-// The bases of the variables in scope, of the outputs and of the hidden ones.
-fn all_bases(alloc: Global, outline: &Outline<'_>) -> Result<Vec<Base>, NoMemory>
+/// The bases of the variables in scope, of the outputs and of the hidden ones.
+pub(crate) fn all_bases(alloc: Global, outline: &Outline<'_>) -> Result<Vec<Base>, NoMemory>
     ensures { IfOk result (λ bs. bs.items ≡ bases_of outline.now.scope.now ++ outline.now.outputs.now ++ outline.now.hidden.now) }
 {
     let mut all = bases(alloc, outline.scope)?;
@@ -376,7 +376,7 @@ fn are_as_chosen(outputs: &[Base], hidden: &[Base]) -> bool
     }
 }
 
-fn has_truths(outputs: &[Base]) -> bool
+pub(crate) fn has_truths(outputs: &[Base]) -> bool
     ensures { result ≡ has_truths_of outputs.now }
 {
     match outputs.split_first() {

@@ -51,10 +51,10 @@ pub(crate) fn wide_chooses<'a>(
     Ok(all)
 }
 
-// The chooses of an expression behind these functions, after those found before.
+/// The chooses of an expression behind these functions, after those found before.
 #[cycle(collect)]
 #[tactic(auto, using(crate::proofs::ChooseWalk::none_found, crate::proofs::ChooseWalk::found_two))]
-fn collect<'a>(
+pub(crate) fn collect<'a>(
     alloc: Global,
     room: &mut Room,
     before: &[Def],

@@ -12,6 +12,7 @@ ghost use Rattle.cf_form.specs.ToldView.{choose_view, told_choose};
 use crate::chooses::{WideChoose, first_passed, wide_chooses};
 use crate::fault::FormFault;
 use crate::forming::form_defs;
+use crate::saturated::saturated;
 use crate::telling::tell_chooses;
 use crate::told::ChooseInfo;
 use crate::wide::Room;
@@ -52,7 +53,7 @@ fn narrow_chooses<'a>(alloc: Global, defs: &'a [Def]) -> Result<Vec<WideChoose<'
                 Err(without(chooses, FormFault::Cases { number, count }))
             }
         },
-        Err(_) => Err(FormFault::NoMemory),
+        Err(_) => Err(past_memory(alloc, defs)),
     }
 }
 
@@ -92,7 +93,23 @@ fn form_within(alloc: Global, defs: &[Def]) -> Result<Vec<Def>, FormFault>
             None => Ok(new),
             Some(fault) => Err(without(new, fault)),
         },
-        Err(_) => Err(FormFault::NoMemory),
+        Err(_) => Err(past_memory(alloc, defs)),
+    }
+}
+
+// Why functions that do not fit into memory are not formed: a weight that stands still at the
+// greatest number, where that is known, and else want of memory.
+#[tactic(auto, using(crate::proofs::SaturatedLaws::unformed_weight, crate::proofs::SaturatedLaws::past_weight))]
+fn past_memory(alloc: Global, defs: &[Def]) -> FormFault
+    ensures unformed { IsUnformed (map def_tree defs.now) result ⊎ (result ≡ faults.NoMemory) }
+    ensures past { IsPast (formed_defs (map def_tree defs.now)) result }
+{
+    match saturated(alloc, defs) {
+        Ok(function) => FormFault::Weight {
+            function,
+            weight: u64::MAX,
+        },
+        Err(_) => FormFault::NoMemory,
     }
 }
 

@@ -193,8 +193,12 @@ refused-words_untold = record {
   is = refl;
   answers = (inl refl, refl, refl);
   told = record {
-    prefix =
-        (codes "usa", codes "ge: comfusy compile|pre|check|run|exec|prove FILE, or comfusy verify FILE STEPS, or comfusy gen N, or comfusy --help\n", refl, refl);
+    prefix = (
+      codes "usa",
+      codes "ge: comfusy compile|pre|check|run|exec|prove FILE, or comfusy verify FILE STEPS, or comfusy gen N, or comfusy --help\n",
+      refl,
+      refl,
+    );
     whole = inl refl;
   };
 }

@@ -9,7 +9,6 @@ use Rattle.cf_words.specs.Commands.{Command, command_on, verify}
 use Rattle.cf_answer.specs.Commands.{names_of, reads_input, calls_passes, text_most}
 use Rattle.cf_answer.specs.Ends.{Ends, Does, Answers, AnswersOn, IsInOrder, source_alone, taken_by}
 use Rattle.cf_answer.specs.Limits.{text_limit, written_limit, of_target, most_of, edition_for, input_most}
-use Rattle.cf_lex.specs.Editions.{edition_of}
 use Rattle.cf_tree.specs.declared.base.Edition.{Edition}
 use Rattle.cf_tree.specs.declared.base.Edition.TheVariants.{Two, Three}
 use Rattle.cf_answer.specs.Outside.{Outside, AreTold, AreTexts, IsSparing, IsFrugal}
@@ -59,7 +58,7 @@ pub record FileRead (c : Command) (name : List ℕ) (before after : ShelfSeen) :
   pub given : after.given ≤ before.given + (limit + 1)
   pub ends : after.ends ≤ before.ends + 1
 
-pub file_read : (c : Command) (name : List ℕ) (before after : ShelfSeen) (limit : ℕ) → ((files : List (List ℕ)) → limit ≡ text_most c (edition_for files)) →
+abbrev pub file_read : (c : Command) (name : List ℕ) (before after : ShelfSeen) (limit : ℕ) → ((files : List (List ℕ)) → limit ≡ text_most c (edition_for files)) →
     after.fetches ≡ one_more before.fetches →
     (after.left ≡ before.left) ⊎ TookFront (limit + 1) (before.texts name) after.left → after.given ≤ before.given + (limit + 1) →
     after.ends ≤ before.ends + 1 → FileRead c name before after
@@ -137,11 +136,13 @@ inner_does c name given before after text f e told ends file none same not_file 
 }
 
 -- memory ran out before a text was there
-pub memory_does : (c : Command) (name : List ℕ) (given : List Told) (before after : Outside) → names_of c ≡ name ∷ [] → FileRead c name before.shelf after.shelf →
+pub memory_does : (c : Command) (name : List ℕ) (given : List Told) (before after : Outside) → names_of c ≡ name ∷ [] →
+    FileRead c name before.shelf after.shelf →
     Untouched before after →
     ((other : List ℕ) → after.shelf.faults other ≡ before.shelf.faults other) → Does c given given before after (Err fault.NoMemory)
 memory_does c name given before after e file none same =
-    inner_does c name given before after (left_of (before.shelf.texts name)) fault.NoMemory e (left_told (before.shelf.texts name)) (inr (none_written before after none)) file none same (λ i. cc)
+    inner_does c name given before after (left_of (before.shelf.texts name)) fault.NoMemory e (left_told (before.shelf.texts name))
+    (inr (none_written before after none)) file none same (λ i. cc)
     (λ i. cc) (λ i. cc)
 
 -- a target past the largest limit is past its own
@@ -157,7 +158,7 @@ long_refused Compile flags name text h = too_long h
 long_refused Run flags name text h = too_long h
 long_refused Pre flags name text h = too_long h
 long_refused Check flags name text h = too_long h
-long_refused Exec flags name text h = too_long (past_its_own (edition_of text) (length text) h)
+long_refused Exec flags name text h = too_long (past_its_own (edition_for (text ∷ [])) (length text) h)
 long_refused Prove flags name text h = too_long h
 
 pub long_does : (kind : CommandKind) (flags : Flags) (name : List ℕ) (given : List Told) (before after : Outside)

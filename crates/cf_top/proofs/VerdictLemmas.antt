@@ -87,10 +87,12 @@ settled_by : (job : Job) (before after : Streams) (status : Status) (answer : Re
     status ≡ status_of answer → (status ≡ File → ⊥) →
     Settled job.command job.files before.input.left status
 settled_by job before after status (Ok done) h is nf =
-    finished (wrote_accepted job before after _ _ _ _ h.3) (read_all (input_most job.files) (reads_input job.command) before.input.left after.input.left h.0 h.3.read h.1 h.2) is
+    finished (wrote_accepted job before after _ _ _ _ h.3)
+    (read_all (input_most job.files) (reads_input job.command) before.input.left after.input.left h.0 h.3.read h.1 h.2) is
 settled_by job before after status (Err fault.Input) h is nf = input_failed (wrote_accepted job before after _ _ _ _ h.3) is
 settled_by job before after status (Err fault.InputTooLong) h is nf =
-    overlong (wrote_accepted job before after _ _ _ _ h.2) (read_past (input_most job.files) (reads_input job.command) before.input.left after.input.left h.0 h.2.read h.1) is
+    overlong (wrote_accepted job before after _ _ _ _ h.2)
+    (read_past (input_most job.files) (reads_input job.command) before.input.left after.input.left h.0 h.2.read h.1) is
 settled_by job before after status (Err fault.OutputTooLong) h is nf =
     overfull (owed_accepted job.command job.files job.given job.passes [] h.0 h.1)
     (record { is = is; given = job.given; passes = job.passes; text = h.0; owed = h.1; past = h.2 })
@@ -164,7 +166,8 @@ completes None given before after errors_before errors_after status t = tt
 completes (Some c) given before after errors_before errors_after status t = does_complete c given t.passes before after status t.answer t.answers t.is
 
 -- words that are no command are refused, or memory ran out
-pub no_command : (command : Option Command) (given last : List Told) (before after : Outside) (answer : Result (Unit {0}) Fault) (status : Status) → command ≡ None →
+pub no_command : (command : Option Command) (given last : List Told) (before after : Outside) (answer : Result (Unit {0}) Fault) (status : Status) →
+    command ≡ None →
     Answers command given last before after answer → status ≡ status_of answer → (status ≡ Usage) ⊎ (status ≡ NoMemory)
 no_command None given last before after answer status none h is =
     elim h.0 [ inl usage ↦ inl (is ∙ ap status_of usage) | inr memory ↦ inr (is ∙ ap status_of memory) ]

@@ -11,4 +11,5 @@ returns-in_err-target-clause-answers g c =
 pub returns-clause-answers : goal.returns-clause-answers
 returns-clause-answers g c =
     λ file given. through_answers _ given given _ _ _ _ _ _ refl refl refl (λ ls replies r. (c.in_ok-target.target, c.in_ok-target.ensures, r))
-    (rw c.edition_of.ensures.is at c.answer_by.ensures.through) c.answer_by.ensures.input c.answer_by.ensures.output (rw c.edition_of.ensures.is at c.answer_by.ensures.given) c.answer_by.ensures.ends
+    (rw c.edition_of.ensures.is at c.answer_by.ensures.through) c.answer_by.ensures.input c.answer_by.ensures.output
+    (rw c.edition_of.ensures.is at c.answer_by.ensures.given) c.answer_by.ensures.ends

@@ -9,16 +9,20 @@ use Rattle.cf_answer.proofs.pieces.answer_piece.Goals as goal
 
 pub returns-clause-all : goal.returns-clause-all
 returns-clause-all g c =
-    piece_all (answerer_of c.args.answerer.now) _ _ c.args.piece.now _ (c.feed_first.new.lines.items ++ map (line_of line_limit) (ended c.in_ok-behind.behind.now)) _ _
+    piece_all (answerer_of c.args.answerer.now) _ _ c.args.piece.now _
+    (c.feed_first.new.lines.items ++ map (line_of line_limit) (ended c.in_ok-behind.behind.now)) _ _
     _ _
-    c.answer_lines.ensures.all (ap (λ ls. ls ++ map (line_of line_limit) (ended c.in_ok-behind.behind.now)) (search rules)) (search rules) c.in_ok-behind.ensures.stands
+    c.answer_lines.ensures.all (ap (λ ls. ls ++ map (line_of line_limit) (ended c.in_ok-behind.behind.now)) (search rules)) (search rules)
+    c.in_ok-behind.ensures.stands
     c.in_ok-behind.ensures.lines
 
 pub returns-clause-some : goal.returns-clause-some
 returns-clause-some g c =
-    piece_some (answerer_of c.args.answerer.now) _ c.args.piece.now _ (c.feed_first.new.lines.items ++ map (line_of line_limit) (ended c.in_ok-behind.behind.now)) _ _
+    piece_some (answerer_of c.args.answerer.now) _ c.args.piece.now _
+    (c.feed_first.new.lines.items ++ map (line_of line_limit) (ended c.in_ok-behind.behind.now)) _ _
     _ _
-    c.answer_lines.ensures.some (ap (λ ls. ls ++ map (line_of line_limit) (ended c.in_ok-behind.behind.now)) (search rules)) (search rules) c.in_ok-behind.ensures.lines
+    c.answer_lines.ensures.some (ap (λ ls. ls ++ map (line_of line_limit) (ended c.in_ok-behind.behind.now)) (search rules)) (search rules)
+    c.in_ok-behind.ensures.lines
 
 pub returns-in_err-behind-clause-some : goal.returns-in_err-behind-clause-some
 returns-in_err-behind-clause-some g c =

@@ -15,4 +15,5 @@ loop-choose-preserved c =
     )
 
 pub returns : goal.returns
-returns c = λ qs s. pres_last (map told_choose c.args.told.now) qs c.args.chooses.now c.loop-choose.choose-index _ _ s (omega arith) (c.loop-choose.invariant.0 qs s)
+returns c = λ qs s. pres_last (map told_choose c.args.told.now) qs c.args.chooses.now c.loop-choose.choose-index _ _ s (omega arith)
+    (c.loop-choose.invariant.0 qs s)

@@ -11,7 +11,8 @@ pub returns : goal.returns
 returns c =
     let choose = c.args.choose.now in
     let names = c.deref.ensures.value ∙ c.in_ok-names.ensures in
-    let printed : c.in_ok-printed.printed.items ≡ pre_text choose.choose.number (valued 0 (names_of choose.choose.scope.now) (map truth_at c.args.branch.now)) (pre_tree c.in_ok-pre.pre) =
+    let printed : c.in_ok-printed.printed.items ≡ pre_text choose.choose.number (valued 0 (names_of choose.choose.scope.now) (map truth_at c.args.branch.now))
+    (pre_tree c.in_ok-pre.pre) =
     c.in_ok-printed.ensures ∙ ap (λ ns. pre_text choose.choose.number ns (pre_tree c.in_ok-pre.pre)) names in
     λ q s. pre_of q (map truth_at c.args.branch.now) choose _ _ _ _ s c.in_ok-pre.ensures.arms c.in_ok-pre.ensures.holds printed
     (rw c.deref-2.ensures.value at c.in_ok-extend_from_slice.ensures.items)

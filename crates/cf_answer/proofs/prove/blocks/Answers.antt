@@ -1,13 +1,11 @@
 use Rattle.std.proofs.Common.{◌≡◌, ◌∙◌, [], sym, ap, subst, map, All}
 use Rattle.std.proofs.lemmas.Result.{err_from_is_err_and}
-use Rattle.cf_lex.specs.Editions.{edition_of}
 use Rattle.cf_tree.specs.ChooseView.{choose_tree}
 use Rattle.cf_tree.specs.declared.base.Edition.TheVariants.{Three}
-use Rattle.cf_form.specs.ToldView.{told_choose}
 use Rattle.cf_build.specs.Chooses.{by_number}
 use Rattle.cf_build.specs.Solves.{IsTypedChoose}
 use Rattle.cf_answer.specs.Branches.{in_branches}
-use Rattle.cf_answer.specs.Certificates.{asked_in, AreProofs}
+use Rattle.cf_answer.specs.Certificates.{asked_in}
 use Rattle.cf_answer.specs.Verifying.{told_in, ArePut}
 use Rattle.cf_answer.proofs.BlockLemmas.{block_refused, put_told}
 use Rattle.cf_answer.proofs.LoweredLemmas.{lowered_chooses}
@@ -33,4 +31,5 @@ returns c =
     ∙ ap by_number (lowered_chooses source c.args.program.now.lowered _ s.lowered c.typed.ensures.value) in
     put_told source c.args.program.now s c.in_ok-text.text.items
     (subst (λ qs. ArePut Three (in_branches (told_in c.args.program.now.formed) [] qs) c.in_ok-text.text.items) are
-    (subst (λ told. ArePut Three (in_branches told [] (map choose_tree c.deref.result.now)) c.in_ok-text.text.items) c.chooses.ensures c.in_ok-text.ensures.proofs))
+    (subst (λ told. ArePut Three (in_branches told [] (map choose_tree c.deref.result.now)) c.in_ok-text.text.items) c.chooses.ensures
+    c.in_ok-text.ensures.proofs))

@@ -23,7 +23,8 @@ returns-clause-answers g c =
     λ file given input. printed_answers _ given given _ _ _ input _ _ _ refl refl
     (_, branched_source c.args.text.now c.in_ok-program.program s, c.in_ok-text.ensures c.args.text.now s)
     (c.deref.ensures.value ∙ sym (append-nil _)) (rw edition at c.write_printed.ensures.fits) (rw edition at c.write_printed.ensures.past)
-    (λ e. rw (c.write_printed.ensures.unwritten e) refl) c.write_printed.ensures.all c.write_printed.ensures.prefix c.write_printed.ensures.fault c.write_printed.ensures.count
+    (λ e. rw (c.write_printed.ensures.unwritten e) refl) c.write_printed.ensures.all c.write_printed.ensures.prefix c.write_printed.ensures.fault
+    c.write_printed.ensures.count
 
 pub returns-clause-unwritten : goal.returns-clause-unwritten
 returns-clause-unwritten g c = λ e. printed_unwritten _ c.write_printed.result c.write_printed.ensures.fault c.write_printed.ensures.unwritten e

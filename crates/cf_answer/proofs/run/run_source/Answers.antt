@@ -19,5 +19,6 @@ pub returns-clause-answers : goal.returns-clause-answers
 returns-clause-answers g c =
     λ file. through_answers _ _ _ _ (answerer_of c.in_ok-answerer.answerer) _ _ _ _ refl
     (run_passed _ _ _ _ _ _ (c.in_ok-answerer.ensures.verdict [] [] refl))
-    (c.deref-2.ensures.value ∙ (rw c.deref.ensures.value at c.in_ok-end.ensures)) c.in_ok-answerer.ensures.verdict (rw c.edition_of.ensures.is at c.answer_by.ensures.through)
+    (c.deref-2.ensures.value ∙ (rw c.deref.ensures.value at c.in_ok-end.ensures)) c.in_ok-answerer.ensures.verdict
+    (rw c.edition_of.ensures.is at c.answer_by.ensures.through)
     c.answer_by.ensures.input c.answer_by.ensures.output (rw c.edition_of.ensures.is at c.answer_by.ensures.given) c.answer_by.ensures.ends

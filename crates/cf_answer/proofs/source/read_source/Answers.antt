@@ -1,4 +1,3 @@
-use Rattle.std.proofs.Common.{refl}
 use Rattle.std.proofs.lemmas.Result.{err_from_is_err_and}
 use Rattle.cf_tree.specs.DefView.{program_tree}
 use Rattle.cf_program.specs.declared.linearity.Linearity.TheVariants.{Plain}

@@ -21,6 +21,7 @@ returns-in-Err-Syntax c =
     inl (
       steps_fault.Syntax c.in-Err-Syntax.place,
       refl,
-      no_tree list.list.items list.end c.in-Err-Syntax.place (c.in_ok-list.ensures.tokens c.args.edition c.requires.short) (rw is at c.in-Err-Syntax.ensures.only)
+      no_tree list.list.items list.end c.in-Err-Syntax.place (c.in_ok-list.ensures.tokens c.args.edition c.requires.short)
+          (rw is at c.in-Err-Syntax.ensures.only)
           (record { dead = rw is at c.in-Err-Syntax.ensures.place; exact = rw is at c.in-Err-Syntax.ensures.exact }),
     )

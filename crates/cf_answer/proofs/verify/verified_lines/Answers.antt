@@ -1,4 +1,4 @@
-use Rattle.std.proofs.Common.{arith, rules, ◌≡◌, get_or}
+use Rattle.std.proofs.Common.{arith}
 use Rattle.cf_tree.specs.ChooseView.{choose_tree}
 use Rattle.cf_answer.proofs.VerifyLemmas.{lines_next, lines_all}
 use Rattle.cf_answer.proofs.verify.verified_lines.Goals as goal

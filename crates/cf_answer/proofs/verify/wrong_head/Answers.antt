@@ -1,4 +1,4 @@
-use Rattle.std.proofs.Common.{◌≡◌, ◌∙◌, ◌∷◌, true, false, map, sym, subst, rules}
+use Rattle.std.proofs.Common.{◌≡◌, ◌∙◌, ◌∷◌, true, false, map, subst, rules}
 use Rattle.cf_form.specs.ToldView.{told_choose, truth_at}
 use Rattle.cf_tree.specs.ChooseView.{choose_tree}
 use Rattle.cf_answer.specs.Branches.{head_of, same_head}
