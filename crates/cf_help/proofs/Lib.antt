@@ -1,0 +1,4 @@
+mod MessageTexts
+mod PlaceTexts
+mod RuleTexts
+mod SyntaxTexts

@@ -1,0 +1,10 @@
+pub mod BadBytes
+pub mod Faults
+pub mod Lines
+pub mod Messages
+pub mod Near
+pub mod Numbers
+pub mod Rows
+pub mod Spots
+pub mod Syntax
+pub mod WordsView
