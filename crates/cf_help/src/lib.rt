@@ -5,14 +5,14 @@
 #![tactic(auto)]
 
 mod bytes;
-mod message;
+mod messages;
 mod numbers;
 mod rules;
 mod syntax;
 mod words;
 
 pub use crate::bytes::bad_byte_words;
-pub use crate::message::message;
+pub use crate::messages::message;
 pub use crate::numbers::{function_place, number_place};
 pub use crate::rules::rule_words;
 pub use crate::syntax::syntax_words;
