@@ -1,4 +1,6 @@
 mod MessageTexts
 mod PlaceTexts
+mod ReturnLemmas
 mod RuleTexts
+mod StopLemmas
 mod SyntaxTexts

@@ -126,7 +126,7 @@ minimize :
     syntax_help (stopped (Word (codes "def") ∷ Word (codes "main") ∷ Sign (codes "(") ∷ Word (codes "a") ∷ Sign (codes ":") ∷ Word (codes "int") ∷ Sign
     (codes ")") ∷ Sign (codes ":") ∷ Word (codes "int") ∷ Sign (codes "=") ∷ Word (codes "choose") ∷ Sign (codes "(") ∷ Word (codes "x") ∷ Sign (codes ":") ∷
     Word (codes "int") ∷ Sign (codes ")") ∷ Word (codes "where") ∷ Word (codes "x") ∷ Sign (codes ">") ∷ Word (codes "a") ∷ []) (Word (codes "minimize") ∷
-    Word (codes "x") ∷ [])) ≡ Some (codes "write minimise")
+    Word (codes "x") ∷ [])) ≡ Some (codes "did you mean 'minimise'?")
 minimize = refl
 
 -- def main(a: int): int = choose (x: int) where x < a maximize x
@@ -134,7 +134,7 @@ maximize :
     syntax_help (stopped (Word (codes "def") ∷ Word (codes "main") ∷ Sign (codes "(") ∷ Word (codes "a") ∷ Sign (codes ":") ∷ Word (codes "int") ∷ Sign
     (codes ")") ∷ Sign (codes ":") ∷ Word (codes "int") ∷ Sign (codes "=") ∷ Word (codes "choose") ∷ Sign (codes "(") ∷ Word (codes "x") ∷ Sign (codes ":") ∷
     Word (codes "int") ∷ Sign (codes ")") ∷ Word (codes "where") ∷ Word (codes "x") ∷ Sign (codes "<") ∷ Word (codes "a") ∷ []) (Word (codes "maximize") ∷
-    Word (codes "x") ∷ [])) ≡ Some (codes "write maximise")
+    Word (codes "x") ∷ [])) ≡ Some (codes "did you mean 'maximise'?")
 maximize = refl
 
 -- def main(a: int): int = choose (x: int) where exists (k: int) 3 * k == x
@@ -759,7 +759,7 @@ foreign_function = refl
 minimize_before :
     syntax_help (stopped (Word (codes "def") ∷ Word (codes "main") ∷ Sign (codes "(") ∷ Word (codes "a") ∷ Sign (codes ":") ∷ Word (codes "int") ∷ Sign
     (codes ")") ∷ Sign (codes ":") ∷ Word (codes "int") ∷ Sign (codes "=") ∷ Word (codes "choose") ∷ Sign (codes "(") ∷ Word (codes "x") ∷ Sign (codes ":") ∷
-    Word (codes "int") ∷ Sign (codes ")") ∷ Word (codes "where") ∷ Word (codes "true") ∷ []) (Word (codes "minimize") ∷ [])) ≡ Some (codes "write minimise")
+    Word (codes "int") ∷ Sign (codes ")") ∷ Word (codes "where") ∷ Word (codes "true") ∷ []) (Word (codes "minimize") ∷ [])) ≡ Some (codes "did you mean 'minimise'?")
 minimize_before = refl
 
 -- x

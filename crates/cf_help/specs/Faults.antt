@@ -1,9 +1,8 @@
 -- What is told of a broken rule, by the program that breaks it: the words behind its place, and a help.
-use Rattle.std.specs.Prelude.{ℕ, ◌+◌, ℤ, Bool, true, false, not, ◌&&◌, ◌==◌, List, [], ◌∷◌, ◌++◌, length, map, reverse, codes, decimal, Option, Some, None, is_some, if◌then◌else◌}
+use Rattle.std.specs.Prelude.{ℕ, ◌+◌, ℤ, Bool, true, false, not, ◌&&◌, ◌==◌, List, [], ◌∷◌, ◌++◌, length, map, reverse, codes, decimal, Option, Some, None, Result, Ok, Err, if◌then◌else◌}
 use Rattle.std.specs.Fmt.{signed_decimal}
 use Rattle.std.specs.List.{concat}
 use Rattle.cf_tree.specs.declared.base.Edition.TheVariants.{Three}
-use Rattle.cf_lex.specs.declared.token.TokenKind.TheVariants.{Word}
 use Rattle.cf_lex.specs.Words.{operation_words}
 use Rattle.cf_tree.specs.declared.base.Base.{Base}
 use Rattle.cf_tree.specs.declared.base.Base.TheVariants.{Int, Bool as Truth, Set}
@@ -18,7 +17,7 @@ use Rattle.cf_program.specs.declared.fault.TypeFault.{TypeFault}
 use Rattle.cf_program.specs.declared.fault.TypeFault.TheVariants as rule
 use Rattle.cf_program.specs.declared.linearity.Linearity.{Linearity}
 use Rattle.cf_program.specs.Checked.{functions_of}
-use Rattle.cf_program.specs.Constants.{constant_of, constant_names}
+use Rattle.cf_program.specs.Constants.{Constant, constant_of, value}
 use Rattle.cf_program.specs.Linear.{Cause, a_choose, a_match, a_set_literal, a_product_with_inputs, a_product_of_unknowns, a_call, Found, linear, bends, found_in, all_hold, in_choose, is_known}
 use Rattle.cf_program.specs.Names.{is_among}
 use Rattle.cf_program.specs.Walk.{side_of, is_one, are_numbers, matched, takes_inputs}
@@ -177,7 +176,7 @@ number_in p other = None
 
 -- the names of variables that are in scope and of constants, the last ones first
 abbrev pub variable_candidates : Scope → List (List ℕ)
-variable_candidates s = reverse (names_of s.variables) ++ reverse (constant_names s.constants)
+variable_candidates s = reverse (names_of s.variables) ++ reverse s.constants
 
 abbrev pub function_candidates : Scope → List (List ℕ)
 function_candidates s = map (λ d. d.name) s.earlier ++ operation_words Three
@@ -188,11 +187,11 @@ given_help s x = if is_among s.outputs x then Some (codes "given speaks of the s
 abbrev pub unknown_words : List ℕ → List (List ℕ) → Option (List ℕ) → Words
 unknown_words x candidates otherwise =
     words (codes "unknown name: " ∷ in_quotes x ∷ [])
-    (or_else (foreign_help (Some (Word x))) (or_else (did_you_mean (first_near x candidates)) otherwise))
+    (or_else (foreign_help (Some x)) (or_else (did_you_mean (first_near x candidates)) otherwise))
 
 abbrev pub number_words : Scope → Option (List ℕ) → Option Words
 number_words s None = None
-number_words s (Some x) = Some (unknown_words x (reverse (constant_names s.constants)) None)
+number_words s (Some x) = Some (unknown_words x (reverse s.constants) None)
 
 abbrev pub words_at : Place → Place → Words → Option Words
 words_at p q w = if same_place p q then Some w else None
@@ -228,7 +227,7 @@ duplicate_words x is_constant =
 
 abbrev pub binder_words : Scope → Option (List ℕ) → Option Words
 binder_words s None = None
-binder_words s (Some x) = Some (duplicate_words x (is_some (constant_of s.constants x)))
+binder_words s (Some x) = Some (duplicate_words x (is_among s.constants x))
 
 abbrev pub duplicate_at : Place → Scope → RawTree → Option Words
 duplicate_at p s e = binder_words s (binder_in p e)
@@ -269,7 +268,7 @@ const_help = codes "a constant is made of literals, constants, + - *, div, mod, 
 abbrev pub variable_words : Scope → Option (List ℕ) → Option Words
 variable_words s None = None
 variable_words s (Some x) =
-    if is_some (constant_of s.constants x) then None else Some (words (codes "not constant: " ∷ in_quotes x ∷ []) (Some number_help))
+    if is_among s.constants x then None else Some (words (codes "not constant: " ∷ in_quotes x ∷ []) (Some number_help))
 
 abbrev pub variable_at : Place → Scope → RawTree → Option Words
 variable_at p s e = variable_words s (number_in p e)
@@ -278,12 +277,23 @@ abbrev pub below_words : List ℕ → Option ℤ → Option Words
 below_words x None = None
 below_words x (Some k) = Some (words (codes "constant below 1: " ∷ in_quotes x ∷ codes " is " ∷ signed_decimal k ∷ []) None)
 
-abbrev pub below_named : Scope → Option (List ℕ) → Option Words
-below_named s None = None
-below_named s (Some x) = below_words x (constant_of s.constants x)
+abbrev pub with_value : List Constant → List ℕ → Result ℤ TypeFault → List Constant
+with_value cs x (Ok k) = cs ++ record { name = x; value = k } ∷ []
+with_value cs x (Err e) = cs
 
-abbrev pub below_at : Place → Scope → RawTree → Option Words
-below_at p s e = below_named s (number_in p e)
+-- the constants of a program that have values, behind these
+abbrev pub constants_in : List Constant → List RawItemTree → List Constant
+constants_in cs [] = cs
+constants_in cs (item_const p x e ∷ items) = constants_in (with_value cs x (value cs e)) items
+constants_in cs (item_def d ∷ items) = constants_in cs items
+
+abbrev pub below_named : List Constant → Option (List ℕ) → Option Words
+below_named cs None = None
+below_named cs (Some x) = below_words x (constant_of cs x)
+
+-- a constant at p in the place of a number
+abbrev pub below_at : List Constant → Place → Scope → RawTree → Option Words
+below_at cs p s e = below_named cs (number_in p e)
 
 -- ---- causes
 abbrev pub cause_text : Cause → List ℕ
@@ -358,7 +368,7 @@ rule_words how items (rule.DuplicateName p) = or_plain (first_item (duplicate_it
 rule_words how items (rule.WrongCount p) = or_plain (seen_in (count_at p) items) (codes "wrong count") None
 rule_words how items (rule.Mismatch p) = mismatch_words (first_item (item_clash p) (at_start items) items)
 rule_words how items (rule.NotConstant p) = or_plain (seen_in (variable_at p) items) (codes "not constant") (Some const_help)
-rule_words how items (rule.ConstantBelow p) = or_plain (seen_in (below_at p) items) (codes "constant below 1") None
+rule_words how items (rule.ConstantBelow p) = or_plain (seen_in (below_at (constants_in [] items) p) items) (codes "constant below 1") None
 rule_words how items (rule.ConstantPast p) = words (codes "constant past limit" ∷ []) None
 rule_words how items (rule.CallsLater p) = or_plain (seen_in (later_at p) items) (codes "calls later function") None
 rule_words how items rule.NoMain = words (codes "no main" ∷ []) None

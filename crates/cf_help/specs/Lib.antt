@@ -6,5 +6,6 @@ pub mod Near
 pub mod Numbers
 pub mod Rows
 pub mod Spots
+pub mod StopView
 pub mod Syntax
 pub mod WordsView

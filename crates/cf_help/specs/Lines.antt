@@ -1,6 +1,6 @@
 -- The line of a place, and the line below it with a caret under the place.
-use Rattle.std.specs.Prelude.{ℕ, zero, suc, ◌-◌, nat_le, nat_lt, Bool, not, ◌&&◌, ◌||◌, ◌==◌, List, [], ◌∷◌, ◌++◌, length, map, take, drop, codes, if◌then◌else◌}
-use Rattle.std.specs.List.{concat}
+use Rattle.std.specs.Prelude.{ℕ, ◌-◌, nat_le, nat_lt, Bool, not, ◌&&◌, ◌||◌, ◌==◌, List, [], ◌∷◌, length, map, flat_map, take, drop, codes, if◌then◌else◌}
+use Rattle.std.specs.List.{concat, prefix_len}
 use Rattle.cf_tree.specs.declared.base.Place.{Place}
 
 abbrev pub same_place : Place → Place → Bool
@@ -10,15 +10,18 @@ same_place p q = (p.line == q.line) && (p.column == q.column)
 abbrev pub most_shown : ℕ
 most_shown = 200
 
+-- all but the line feed
+abbrev pub is_in_line : ℕ → Bool
+is_in_line b = not (b == 10)
+
 -- the bytes behind so many line feeds
 abbrev pub behind_lines : ℕ → List ℕ → List ℕ
-behind_lines zero bytes = bytes
-behind_lines (suc n) [] = []
-behind_lines (suc n) (b ∷ bytes) = if b == 10 then behind_lines n bytes else behind_lines (suc n) bytes
+behind_lines n [] = []
+behind_lines n (b ∷ bytes) = if n == 0 then b ∷ bytes else behind_lines (if b == 10 then n - 1 else n) bytes
 
+-- the bytes before the next line feed
 abbrev pub before_feed : List ℕ → List ℕ
-before_feed [] = []
-before_feed (b ∷ bytes) = if b == 10 then [] else b ∷ before_feed bytes
+before_feed bytes = take (prefix_len is_in_line bytes) bytes
 
 -- the line of a place, without its line feed
 abbrev pub line_of : List ℕ → Place → List ℕ
@@ -46,7 +49,7 @@ abbrev pub below : ℕ → List ℕ
 below b = if b == 9 then b ∷ [] else (if nat_le 128 b && nat_le b 191 then [] else codes " ")
 
 abbrev pub caret_line : List ℕ → Place → List ℕ
-caret_line line p = concat (map below (take (p.column - 1) line)) ++ codes "^"
+caret_line line p = concat (flat_map below (take (p.column - 1) line) ∷ codes "^" ∷ [])
 
 abbrev pub is_shown : List ℕ → Bool
 is_shown row = nat_lt 0 (length row) && nat_le (length row) most_shown

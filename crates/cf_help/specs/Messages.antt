@@ -15,25 +15,31 @@ abbrev pub help_line : Option (List ℕ) → List ℕ
 help_line None = []
 help_line (Some help) = concat (codes "help: " ∷ help ∷ codes "\n" ∷ [])
 
+-- the name of a file, and a place of it where there is one
+abbrev pub heading : List ℕ → Option Place → List ℕ
+heading name None = concat (shown name ∷ codes ": " ∷ [])
+heading name (Some p) = concat (shown name ∷ codes ":" ∷ decimal p.line ∷ codes ":" ∷ decimal p.column ∷ codes ": " ∷ [])
+
+abbrev pub lines_at : List ℕ → Option Place → List ℕ
+lines_at text None = []
+lines_at text (Some p) = source_lines text p
+
 -- Words about a place of the file of this name and this text, or about the whole of it.
 abbrev pub message : List ℕ → List ℕ → Option Place → Words → List ℕ
-message name text None w = concat (shown name ∷ codes ": " ∷ w.what ∷ codes "\n" ∷ help_line w.help ∷ [])
-message name text (Some p) w =
-    concat (shown name ∷ codes ":" ∷ decimal p.line ∷ codes ":" ∷ decimal p.column ∷ codes ": " ∷ w.what ∷ codes "\n" ∷ source_lines text p
-    ∷ help_line w.help ∷ [])
+message name text p w = concat (heading name p ∷ w.what ∷ codes "\n" ∷ lines_at text p ∷ help_line w.help ∷ [])
 
 abbrev pub too_long_words : Words
 too_long_words = words (codes "text too long" ∷ []) None
 
 abbrev pub bad_byte_words : List ℕ → Place → Words
-bad_byte_words text p = words (found_first (bytes_at text p) ∷ []) (bad_byte_help (bytes_at text p))
+bad_byte_words text p = record { what = found_first (bytes_at text p); help = bad_byte_help (bytes_at text p) }
 
 abbrev pub past_limit_words : Words
 past_limit_words = words (codes "number past limit" ∷ []) (Some (codes "the greatest number is 170141183460469231731687303715884105727"))
 
 -- reading stops at p, and these are the tokens of the text
 abbrev pub syntax_words : List ℕ → List Token → Place → Words
-syntax_words text ts p = words (found_token (bytes_at text p) ∷ []) (syntax_help (stop_at [] ts p))
+syntax_words text ts p = record { what = found_token (bytes_at text p); help = syntax_help (stop_at ts p) }
 
 -- a refused choose
 abbrev pub choose_words : ℕ → List ℕ → Words

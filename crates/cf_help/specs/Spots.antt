@@ -1,5 +1,5 @@
 -- What stands at a place of a program, and what is in scope there.
-use Rattle.std.specs.Prelude.{ℕ, ℤ, Bool, true, false, List, [], ◌∷◌, ◌++◌, Option, Some, None, Result, Ok, Err, if◌then◌else◌}
+use Rattle.std.specs.Prelude.{ℕ, Bool, true, not, List, [], ◌∷◌, ◌++◌, Option, Some, None, if◌then◌else◌}
 use Rattle.std.specs.Str.{bytes_eq}
 use Rattle.cf_tree.specs.declared.base.Base.{Base}
 use Rattle.cf_tree.specs.declared.base.Base.TheVariants.{Int, Bool as Truth, Set}
@@ -8,17 +8,20 @@ use Rattle.cf_tree.specs.DefView.{RawDefTree, RawItemTree, item_const, item_def}
 use Rattle.cf_tree.specs.Params.{bases_of, names_of}
 use Rattle.cf_tree.specs.RawTree.{RawTree, raw_lit, raw_truth, raw_name, raw_set_of, raw_group, raw_tuple, raw_neg, raw_not, raw_abs, raw_binary, raw_chain, raw_min, raw_max, raw_divides, raw_div, raw_mod, raw_card, raw_call, raw_if, raw_let, raw_choose, raw_match, RawTrees, no_raws, raw_more, RawArmTrees, no_raw_arms, raw_arm, raw_arm_more, NumberTree, PartTree, GivenTree, no_given, given_that, AimTree, no_aim, aim_at}
 use Rattle.cf_tree.specs.Typing.{one}
-use Rattle.cf_program.specs.declared.fault.TypeFault.{TypeFault}
 use Rattle.cf_program.specs.declared.variable.Variable.{Variable}
-use Rattle.cf_program.specs.Constants.{Constant, constant_of, value}
-use Rattle.cf_program.specs.Names.{variable_of}
+use Rattle.cf_program.specs.Names.{variable_of, is_among}
 use Rattle.cf_program.specs.Walk.{bound, matched, result_of}
 use Rattle.cf_help.specs.Rows.{or_else}
 
--- The variables by level, the constants and the functions before, all functions, and in a `given` the names of the outputs of its choose.
+-- whether a name with this factor is a variable, where it is that of a constant or not
+abbrev pub is_bound : Bool → Option NumberTree → Bool
+is_bound constant (Some k) = true
+is_bound constant None = not constant
+
+-- The variables by level, the names of the constants and the functions before, all functions, and in a `given` the names of the outputs of its choose.
 pub record Scope : Type 0 where
   pub variables : List Param
-  pub constants : List Constant
+  pub constants : List (List ℕ)
   pub earlier : List RawDefTree
   pub functions : List RawDefTree
   pub outputs : List (List ℕ)
@@ -31,19 +34,14 @@ abbrev pub in_given : Scope → List Param → Scope
 in_given s outputs =
     record { variables = s.variables; constants = s.constants; earlier = s.earlier; functions = s.functions; outputs = names_of outputs }
 
-abbrev pub is_none : Option ℤ → Bool
-is_none None = true
-is_none (Some k) = false
+-- whether a name of a pattern is a variable behind these constants: it has a factor, or is not that of a constant
+abbrev pub is_variable : List (List ℕ) → PartTree → Bool
+is_variable cs x = is_bound (is_among cs x.name) x.factor
 
--- whether a name of a pattern is a variable: it has a factor, or is not that of a constant
-abbrev pub is_variable : List Constant → List ℕ → Option NumberTree → Bool
-is_variable cs x (Some k) = true
-is_variable cs x None = is_none (constant_of cs x)
-
-abbrev pub pattern_variables : List Constant → List PartTree → List Param
+abbrev pub pattern_variables : List (List ℕ) → List PartTree → List Param
 pattern_variables cs [] = []
 pattern_variables cs (x ∷ xs) =
-    if is_variable cs x.name x.factor then record { place = x.place; name = x.name; base = Int } ∷ pattern_variables cs xs else pattern_variables cs xs
+    if is_variable cs x then record { place = x.place; name = x.name; base = Int } ∷ pattern_variables cs xs else pattern_variables cs xs
 
 -- the first function of that name
 abbrev pub function_of : List RawDefTree → List ℕ → Option RawDefTree
@@ -147,17 +145,13 @@ abbrev mutual
 abbrev pub Item : Type 0 → Type 0
 Item A = Scope → RawItemTree → Option A
 
-abbrev pub behind_const : List Constant → List ℕ → Result ℤ TypeFault → List Constant
-behind_const cs x (Ok k) = cs ++ record { name = x; value = k } ∷ []
-behind_const cs x (Err e) = cs
-
 -- the first item of a program of which there is something to say, where these items stand behind a scope
 abbrev pub first_item : {A : Type 0} → Item A → Scope → List RawItemTree → Option A
 first_item say s [] = None
 first_item say s (item_const p x e ∷ items) =
     or_else (say s (item_const p x e)) (first_item say (record {
       variables = [];
-      constants = behind_const s.constants x (value s.constants e);
+      constants = s.constants ++ x ∷ [];
       earlier = s.earlier;
       functions = s.functions;
       outputs = [];

@@ -1,11 +1,92 @@
 //! Bytes at which no token begins.
-ghost use Rattle.std.specs.Prelude.{◌≡◌, IfOk};
+ghost use Rattle.std.specs.Prelude.{◌≡◌, ℕ, Bool, option_map, IfOk};
+ghost use Rattle.cf_help.specs.BadBytes.{begins_with as begins_with_of, bad_byte_help as bad_byte_help_of, found_byte as found_byte_of, found_first as found_first_of};
 ghost use Rattle.cf_help.specs.Messages.{bad_byte_words as bad_byte_words_of};
 ghost use Rattle.cf_help.specs.WordsView.{words_of};
 
+use crate::lines::bytes_at;
+use crate::pieces::{help_text, joined, number_text};
+use crate::rows::{first_fitting, row};
 use crate::words::FaultWords;
-use cf_tree::{NoMemory, Place};
+use cf_tree::{NoMemory, Place, Text};
 use std::alloc::Global;
+
+// Whether these bytes begin so.
+fn begins_with(front: &[u8], bytes: &[u8]) -> bool
+    ensures { result ≡ begins_with_of front.now bytes.now }
+{
+    let mut left = front;
+    let mut rest = bytes;
+    while let Some((a, more)) = left.split_first() {
+        match rest.split_first() {
+            None => return false,
+            Some((b, behind)) => {
+                if *a != *b {
+                    return false;
+                }
+                left = more;
+                rest = behind;
+            }
+        }
+    }
+    true
+}
+
+// The help for bytes that are signs elsewhere.
+fn bad_byte_help(bytes: &[u8]) -> Option<&'static [u8]>
+    ensures { option_map (λ h. h.now) result ≡ bad_byte_help_of bytes.now }
+{
+    first_fitting(&[
+        row(begins_with(b"//", bytes), b"a comment begins with #"),
+        row(
+            begins_with(b"/", bytes),
+            b"division is div(a, 2), and what is left over is mod(a, 2)",
+        ),
+        row(begins_with(b"%", bytes), b"what is left over is mod(a, 2)"),
+        row(begins_with(b"^", bytes), b"there are no powers; write a product"),
+        row(
+            begins_with(b"|", bytes),
+            b"or is ||; that k divides a is written k divides a",
+        ),
+        row(begins_with(b"&", bytes), b"and is &&"),
+        row(begins_with(b"~", bytes), b"not is !"),
+        row(begins_with(b".", bytes), b"numbers are whole, and there are no ranges"),
+        row(
+            begins_with(b"?", bytes),
+            b"a choice between values is if p then a else b",
+        ),
+        row(begins_with(b"'", bytes), b"a name is made of letters, digits and _"),
+        row(begins_with(b"\"", bytes), b"there are no texts"),
+        row(begins_with(b"\xe2\x89\xa4", bytes), b"write <="),
+        row(begins_with(b"\xe2\x89\xa5", bytes), b"write >="),
+        row(begins_with(b"\xe2\x89\xa0", bytes), b"write !="),
+        row(
+            begins_with(b"\xef\xbb\xbf", bytes),
+            b"the file begins with a byte order mark; save it without one",
+        ),
+    ])
+}
+
+// A byte as it is, or its number where it is no visible one of ASCII.
+fn found_byte(alloc: Global, byte: u8) -> Result<Text, NoMemory>
+    ensures { IfOk result (λ t. t ≡ found_byte_of byte) }
+{
+    if 33 <= byte && byte <= 126 {
+        joined(alloc, &[b"bad byte: found '".as_slice(), &[byte], b"'".as_slice()])
+    } else {
+        let number = number_text(alloc, byte as u64)?;
+        joined(alloc, &[b"bad byte: found byte ".as_slice(), &number.bytes])
+    }
+}
+
+fn found_first(alloc: Global, bytes: &[u8]) -> Result<Text, NoMemory>
+    ensures { IfOk result (λ t. t ≡ found_first_of bytes.now) }
+{
+    match bytes.split_first() {
+        None => found_byte(alloc, 0),
+        Some((byte, _)) => found_byte(alloc, *byte),
+    }
+}
 
 /// What is told of a byte of a text at which no token begins.
 ///
@@ -14,5 +95,8 @@ use std::alloc::Global;
 pub fn bad_byte_words(alloc: Global, text: &[u8], place: Place) -> Result<FaultWords, NoMemory>
     ensures { IfOk result (λ w. words_of w ≡ bad_byte_words_of text.now place) }
 {
-    Err(NoMemory)
+    let bytes = bytes_at(text, place);
+    let what = found_first(alloc, bytes)?;
+    let help = help_text(alloc, bad_byte_help(bytes))?;
+    Ok(FaultWords { what, help })
 }

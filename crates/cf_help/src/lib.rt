@@ -5,11 +5,17 @@
 #![tactic(auto)]
 
 mod bytes;
+mod kinds;
+mod lines;
 mod messages;
 mod numbers;
+mod pieces;
+mod rows;
 mod rules;
+mod stop;
 mod syntax;
 mod words;
+mod written;
 
 pub use crate::bytes::bad_byte_words;
 pub use crate::messages::message;
