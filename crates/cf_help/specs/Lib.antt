@@ -8,4 +8,5 @@ pub mod Rows
 pub mod Spots
 pub mod StopView
 pub mod Syntax
+pub mod Told
 pub mod WordsView

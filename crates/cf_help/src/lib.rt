@@ -14,6 +14,7 @@ mod rows;
 mod rules;
 mod stop;
 mod syntax;
+mod telling;
 mod words;
 mod written;
 
@@ -22,4 +23,5 @@ pub use crate::messages::message;
 pub use crate::numbers::{function_place, number_place};
 pub use crate::rules::rule_words;
 pub use crate::syntax::syntax_words;
+pub use crate::telling::{Refused, told};
 pub use crate::words::FaultWords;
