@@ -21,10 +21,10 @@ pub fn rule_words(
 ) -> Result<FaultWords, NoMemory>
     ensures { IfOk result (λ w. words_of w ≡ rule_words_of how (program_tree items.now) fault) }
 {
-    not_built()
+    Err(not_built())
 }
 
 // What is not built yet is answered by want of memory.
-fn not_built() -> Result<FaultWords, NoMemory> {
-    Err(NoMemory)
+fn not_built() -> NoMemory {
+    NoMemory
 }
