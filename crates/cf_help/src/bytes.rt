@@ -45,7 +45,10 @@ fn of_signs(bytes: &[u8]) -> Option<&'static [u8]>
             b"division is div(a, 2), and what is left over is mod(a, 2)",
         ),
         row(begins_with(b"%", bytes), b"what is left over is mod(a, 2)"),
-        row(begins_with(b"^", bytes), b"there are no powers; write a product"),
+        row(
+            begins_with(b"^", bytes),
+            b"there are no powers; write a product",
+        ),
         row(
             begins_with(b"|", bytes),
             b"or is ||; that k divides a is written k divides a",
@@ -59,12 +62,18 @@ fn of_marks(bytes: &[u8]) -> Option<&'static [u8]>
     first_fitting(&[
         row(begins_with(b"&", bytes), b"and is &&"),
         row(begins_with(b"~", bytes), b"not is !"),
-        row(begins_with(b".", bytes), b"numbers are whole, and there are no ranges"),
+        row(
+            begins_with(b".", bytes),
+            b"numbers are whole, and there are no ranges",
+        ),
         row(
             begins_with(b"?", bytes),
             b"a choice between values is if p then a else b",
         ),
-        row(begins_with(b"'", bytes), b"a name is made of letters, digits and _"),
+        row(
+            begins_with(b"'", bytes),
+            b"a name is made of letters, digits and _",
+        ),
     ])
 }
 
@@ -95,7 +104,10 @@ fn found_byte(alloc: Global, byte: u8) -> Result<Text, NoMemory>
     ensures { IfOk result (λ t. t ≡ found_byte_of byte) }
 {
     if 33 <= byte && byte <= 126 {
-        joined(alloc, &[b"bad byte: found '".as_slice(), &[byte], b"'".as_slice()])
+        joined(
+            alloc,
+            &[b"bad byte: found '".as_slice(), &[byte], b"'".as_slice()],
+        )
     } else {
         let number = number_text(alloc, byte as u64)?;
         joined(alloc, &[b"bad byte: found byte ".as_slice(), &number.bytes])

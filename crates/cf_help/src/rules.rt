@@ -6,7 +6,7 @@ ghost use Rattle.cf_help.specs.WordsView.{words_of};
 
 use crate::words::FaultWords;
 use cf_program::{Linearity, TypeFault};
-use cf_tree::{Program, NoMemory};
+use cf_tree::{NoMemory, Program};
 use std::alloc::Global;
 
 /// What is told of the first rule that a program breaks, where its relations are to be linear so.

@@ -14,7 +14,9 @@ use crate::kinds::{
 use crate::lines::bytes_at;
 use crate::pieces::{help_text, in_quotes, joined};
 use crate::rows::{first_fitting, row};
-use crate::stop::{Stop, before_list, first, is_behind_header, is_in_list, is_section, second, stop_at};
+use crate::stop::{
+    Stop, before_list, first, is_behind_header, is_in_list, is_section, second, stop_at,
+};
 use crate::words::FaultWords;
 use crate::written::found_token;
 use cf_lex::{Token, TokenKind};
@@ -68,9 +70,13 @@ fn is_chain(v: Option<&TokenKind>, p: Option<&TokenKind>) -> bool
 
 // Another sign for an implication.
 fn is_arrow(v: Option<&TokenKind>, p: Option<&TokenKind>, n: Option<&TokenKind>) -> bool
-    ensures { result ≡ ((is_sign_of (codes ">") (kind_seen v.entry) && is_some_sign_of (codes "=" ∷ codes "-" ∷ []) (kind_seen p.entry)) || (is_sign_of (codes "=") (kind_seen v.entry) && is_sign_of (codes ">") (kind_seen n.entry))) }
+    ensures { result ≡ ((is_sign_of (codes ">") (kind_seen v.entry) && is_some_sign_of (codes "=" ∷ codes "-" ∷ []) (kind_seen p.entry)) ||
+        (is_sign_of (codes "=") (kind_seen v.entry) && is_sign_of (codes ">") (kind_seen n.entry))) }
 {
-    let here = both(is_sign(b">", v), is_some_sign(&[b"=".as_slice(), b"-".as_slice()], p));
+    let here = both(
+        is_sign(b">", v),
+        is_some_sign(&[b"=".as_slice(), b"-".as_slice()], p),
+    );
     either(here, both(is_sign(b"=", v), is_sign(b">", n)))
 }
 
@@ -90,7 +96,8 @@ fn is_at_most(v: Option<&TokenKind>, n: Option<&TokenKind>) -> bool
 
 // A function without a result type.
 fn lacks_results(v: Option<&TokenKind>, p: Option<&TokenKind>, before: &[&TokenKind]) -> bool
-    ensures { result ≡ (is_sign_of (codes "=") (kind_seen v.entry) && (is_sign_of (codes ")") (kind_seen p.entry) && is_section_of (codes "def") (kinds_seen before.now))) }
+    ensures { result ≡ (is_sign_of (codes "=") (kind_seen v.entry) &&
+        (is_sign_of (codes ")") (kind_seen p.entry) && is_section_of (codes "def") (kinds_seen before.now))) }
 {
     let listed = both(is_sign(b")", p), is_section(b"def", before));
     both(is_sign(b"=", v), listed)
@@ -214,7 +221,10 @@ fn of_items<'a>(
     let bound = either(is_behind_binder(p), both(opened, is_in_list(before)));
     first_fitting(&[
         row(is_other_def(v), b"a function begins with def"),
-        row(both(start, is_behind_header(before)), b"a comment begins with #"),
+        row(
+            both(start, is_behind_header(before)),
+            b"a comment begins with #",
+        ),
         row(
             both(is_sign(b"-", v), dashed),
             b"a name is made of letters, digits and _",
@@ -230,7 +240,8 @@ fn of_items<'a>(
 
 // A parenthesis in that of a type.
 fn is_nested_type(v: Option<&TokenKind>, p: Option<&TokenKind>, before: &[&TokenKind]) -> bool
-    ensures { result ≡ (is_sign_of (codes "(") (kind_seen v.entry) && (is_sign_of (codes "(") (kind_seen p.entry) && is_sign_of (codes ":") (second_of (kinds_seen before.now)))) }
+    ensures { result ≡ (is_sign_of (codes "(") (kind_seen v.entry) &&
+        (is_sign_of (codes "(") (kind_seen p.entry) && is_sign_of (codes ":") (second_of (kinds_seen before.now)))) }
 {
     let inner = both(is_sign(b"(", p), is_sign(b":", second(before)));
     both(is_sign(b"(", v), inner)
@@ -262,7 +273,8 @@ fn lacks_outputs(v: Option<&TokenKind>, p: Option<&TokenKind>, before: &[&TokenK
 
 // A name without a type in a list.
 fn lacks_type(v: Option<&TokenKind>, p: Option<&TokenKind>, before: &[&TokenKind]) -> bool
-    ensures { result ≡ (is_some_sign_of (codes ")" ∷ codes "," ∷ codes ";" ∷ []) (kind_seen v.entry) && (is_name_of (kind_seen p.entry) && is_in_list_of (kinds_seen before.now))) }
+    ensures { result ≡ (is_some_sign_of (codes ")" ∷ codes "," ∷ codes ";" ∷ []) (kind_seen v.entry) &&
+        (is_name_of (kind_seen p.entry) && is_in_list_of (kinds_seen before.now))) }
 {
     let ended = is_some_sign(&[b")".as_slice(), b",".as_slice(), b";".as_slice()], v);
     both(ended, both(is_name(p), is_in_list(before)))
@@ -298,9 +310,15 @@ fn of_types(
     ensures { text_seen result ≡ first_fitting_of (take 3 (rows_of_lists (kind_seen v.entry) (kind_seen p.entry) (kinds_seen before.now))) }
 {
     first_fitting(&[
-        row(is_nested_type(v, p, before), b"a tuple is flat: (int, int, int)"),
+        row(
+            is_nested_type(v, p, before),
+            b"a tuple is flat: (int, int, int)",
+        ),
         row(is_other_type(v, p), b"a type is int, bool or set"),
-        row(lacks_hidden(v, p, before), b"hidden outputs stand behind the ;"),
+        row(
+            lacks_hidden(v, p, before),
+            b"hidden outputs stand behind the ;",
+        ),
     ])
 }
 
@@ -313,7 +331,10 @@ fn of_parts(
     ensures { text_seen result ≡ first_fitting_of (take 3 (drop 3 (rows_of_lists (kind_seen v.entry) (kind_seen p.entry) (kinds_seen before.now)))) }
 {
     first_fitting(&[
-        row(lacks_outputs(v, p, before), b"an output stands before the ;"),
+        row(
+            lacks_outputs(v, p, before),
+            b"an output stands before the ;",
+        ),
         row(
             lacks_type(v, p, before),
             b"each parameter and output has a type: (x: int)",
@@ -372,11 +393,7 @@ fn of_lists(
 }
 
 // Whether a name stands behind a literal that is not the header's.
-fn is_behind_literal(
-    v: Option<&TokenKind>,
-    p: Option<&TokenKind>,
-    before: &[&TokenKind],
-) -> bool
+fn is_behind_literal(v: Option<&TokenKind>, p: Option<&TokenKind>, before: &[&TokenKind]) -> bool
     ensures { result ≡ is_behind_literal_of (kind_seen v.entry) (kind_seen p.entry) (kinds_seen before.now) }
 {
     let literal = is_literal(p);
@@ -393,9 +410,13 @@ fn lacks_equal(v: Option<&TokenKind>, p: Option<&TokenKind>) -> bool
 
 // Digits in groups.
 fn is_grouped(v: Option<&TokenKind>, p: Option<&TokenKind>, before: &[&TokenKind]) -> bool
-    ensures { result ≡ (is_behind_literal_of (kind_seen v.entry) (kind_seen p.entry) (kinds_seen before.now) && begins_with_line_of (word_of_kind (kind_seen v.entry))) }
+    ensures { result ≡ (is_behind_literal_of (kind_seen v.entry) (kind_seen p.entry) (kinds_seen before.now) && begins_with_line_of
+        (word_of_kind (kind_seen v.entry))) }
 {
-    both(is_behind_literal(v, p, before), begins_with_line(word_of(v)))
+    both(
+        is_behind_literal(v, p, before),
+        begins_with_line(word_of(v)),
+    )
 }
 
 // A divisor of 0.
@@ -432,7 +453,10 @@ fn of_braces(
             lacks_equal(v, p),
             b"a body stands behind =: def f(x: int): int = x",
         ),
-        row(is_some_sign(&[b"[".as_slice(), b"]".as_slice()], v), b"there are no lists; a set is {1, 2}"),
+        row(
+            is_some_sign(&[b"[".as_slice(), b"]".as_slice()], v),
+            b"there are no lists; a set is {1, 2}",
+        ),
         row(is_grouped(v, p, before), b"digits are written without _"),
     ])
 }
@@ -446,7 +470,10 @@ fn of_products(
     ensures { text_seen result ≡ first_fitting_of (take 3 (drop 3 (rows_of_values (kind_seen v.entry) (kind_seen p.entry) (kinds_seen before.now)))) }
 {
     first_fitting(&[
-        row(is_behind_literal(v, p, before), b"a product is written with *"),
+        row(
+            is_behind_literal(v, p, before),
+            b"a product is written with *",
+        ),
         row(is_zero_divisor(v, p), b"a divisor is at least 1"),
         row(
             is_divided(v, p),
@@ -481,7 +508,10 @@ fn of_words(
     first_fitting(&[
         row(is_late_given(v, before), b"given stands before where"),
         row(is_word(b"const", v), b"const stands among the functions"),
-        row(is_inside(v), b"it stands in parentheses inside an operation"),
+        row(
+            is_inside(v),
+            b"it stands in parentheses inside an operation",
+        ),
     ])
 }
 
