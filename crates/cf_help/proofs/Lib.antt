@@ -1,0 +1,7 @@
+mod MessageTexts
+mod PlaceTexts
+mod ReturnLemmas
+mod RowSteps
+mod RuleTexts
+mod StopLemmas
+mod SyntaxTexts

@@ -1,0 +1,12 @@
+pub mod BadBytes
+pub mod Faults
+pub mod Lines
+pub mod Messages
+pub mod Near
+pub mod Numbers
+pub mod Rows
+pub mod Spots
+pub mod StopView
+pub mod Syntax
+pub mod Told
+pub mod WordsView
