@@ -87,6 +87,9 @@ whole_read most whole front read short =
     let count = ap length read ∙ length-take (most + 1) whole in
     read ∙ take_all (most + 1) whole (omega (arith, count, short))
 
+pub past_whole : (most : ℕ) (whole front : List ℕ) → front ≡ take (most + 1) whole → most < length front → most < length whole
+past_whole most whole front read many = let count = ap length read ∙ length-take (most + 1) whole in omega (arith, count, many)
+
 pub told_front : (most : ℕ) (told : Option (List ℕ)) (front : List ℕ) → IfSome told (λ text. front ≡ take (most + 1) text) → length front ≤ most →
     AreTold told front
 told_front most None front h few = tt
