@@ -1,7 +1,7 @@
 -- The chooses of a source, as blocks are checked against them.
 use Rattle.std.proofs.Common.{◌≡◌, ◌∙◌, inl, inr, ap, refl, ℕ, List, [], ◌∷◌, Option, map, All}
 use Rattle.std.proofs.lemmas.List.Elements.{All-head, All-tail}
-use Rattle.std.specs.Prelude.{Result, Ok, Err, IfOk, IfErr}
+use Rattle.std.specs.Prelude.{◌⊎◌, Result, Ok, Err, IfOk, IfErr}
 use Rattle.cf_cases.specs.Holding.{EachOf}
 use Rattle.cf_io.specs.Seen.{ShelfSeen}
 use Rattle.cf_tree.specs.ChooseView.{choose_tree}
