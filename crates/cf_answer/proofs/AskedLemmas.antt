@@ -19,6 +19,7 @@ use Rattle.cf_answer.specs.Steps.{IsVerdict}
 use Rattle.cf_answer.specs.Verifying.{told_in, IsToldProgram, NoneFailed, IsSourceFault, broken_file, no_room}
 use Rattle.cf_answer.proofs.LoweredLemmas.{lowered_chooses}
 use Rattle.cf_answer.specs.declared.fault.Fault.{Fault}
+use Rattle.cf_answer.specs.declared.fault.Fault.TheVariants as fault
 
 abbrev IsAskedChoose : Choose → Type 0
 IsAskedChoose c = IsTypedChoose (choose_tree c)
