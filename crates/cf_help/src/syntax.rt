@@ -40,8 +40,8 @@ pub fn foreign_help(word: Option<&[u8]>) -> Option<&'static [u8]>
     ])
 }
 
-// The first of two, where there is one.
-fn or_else<'a>(help: Option<&'a [u8]>, other: Option<&'a [u8]>) -> Option<&'a [u8]>
+/// The first of two, where there is one.
+pub fn or_else<'a>(help: Option<&'a [u8]>, other: Option<&'a [u8]>) -> Option<&'a [u8]>
     ensures { text_seen result ≡ or_else_of (text_seen help.entry) (text_seen other.entry) }
 {
     match help {
