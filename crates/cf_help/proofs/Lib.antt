@@ -9,3 +9,4 @@ mod SeenSteps
 mod StopLemmas
 mod SyntaxTexts
 mod ValueSteps
+mod RowSteps

@@ -8,7 +8,6 @@ use Rattle.cf_help.specs.Syntax.{Stop, stop_behind, syntax_help, found_token, wr
 abbrev stopped : List TokenKind → List TokenKind → Stop
 stopped before after = stop_behind (reverse (Word (codes "comfusy") ∷ Literal (pos 3) ∷ [] ++ before)) after
 
-
 header_alone :
     syntax_help (stopped [] []) ≡ Some (codes "the text ends too early: a ), an else, an in or a body is missing")
 header_alone = refl
@@ -443,7 +442,6 @@ carriage_returns :
     "a comparison is ==; = stands behind def, const and let")
 carriage_returns = refl
 
-
 no_header_is_language_2 :
     syntax_help (stopped [] (Sign (codes "(") ∷ Word (codes "a") ∷ Sign (codes ":") ∷ Word (codes "int") ∷ Sign (codes ")") ∷ Sign (codes ":") ∷ Word (codes
     "int") ∷ Sign (codes "=") ∷ Word (codes "choose") ∷ Sign (codes "(") ∷ Word (codes "x") ∷ Sign (codes ":") ∷ Word (codes "int") ∷ Sign (codes ")") ∷ Word
@@ -456,7 +454,6 @@ n3_and_a_name_together :
     syntax_help (stopped [] (Word (codes "x") ∷ Word (codes "def") ∷ Word (codes "main") ∷ Sign (codes "(") ∷ Word (codes "a") ∷ Sign (codes ":") ∷ Word
     (codes "int") ∷ Sign (codes ")") ∷ Sign (codes ":") ∷ Word (codes "int") ∷ Sign (codes "=") ∷ Word (codes "b") ∷ [])) ≡ None
 n3_and_a_name_together = refl
-
 
 comfusy_3_within_language_2 :
     syntax_help (stopped [] (Sign (codes "(") ∷ Word (codes "comfusy") ∷ Sign (codes ":") ∷ Word (codes "int") ∷ Sign (codes ")") ∷ Sign (codes ":") ∷ Word
@@ -759,7 +756,8 @@ foreign_function = refl
 minimize_before :
     syntax_help (stopped (Word (codes "def") ∷ Word (codes "main") ∷ Sign (codes "(") ∷ Word (codes "a") ∷ Sign (codes ":") ∷ Word (codes "int") ∷ Sign
     (codes ")") ∷ Sign (codes ":") ∷ Word (codes "int") ∷ Sign (codes "=") ∷ Word (codes "choose") ∷ Sign (codes "(") ∷ Word (codes "x") ∷ Sign (codes ":") ∷
-    Word (codes "int") ∷ Sign (codes ")") ∷ Word (codes "where") ∷ Word (codes "true") ∷ []) (Word (codes "minimize") ∷ [])) ≡ Some (codes "did you mean 'minimise'?")
+    Word (codes "int") ∷ Sign (codes ")") ∷ Word (codes "where") ∷ Word (codes "true") ∷ []) (Word (codes "minimize") ∷ [])) ≡ Some
+    (codes "did you mean 'minimise'?")
 minimize_before = refl
 
 -- x

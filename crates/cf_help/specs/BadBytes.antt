@@ -1,7 +1,7 @@
 -- What is told where no token begins.
 use Rattle.std.specs.Prelude.{ℕ, Bool, true, false, ◌&&◌, ◌==◌, nat_le, List, [], ◌∷◌, codes, decimal, Option, if◌then◌else◌}
 use Rattle.std.specs.List.{concat}
-use Rattle.cf_help.specs.Rows.{Row, ◌gives◌, first_fitting}
+use Rattle.cf_help.specs.Rows.{Row, ◌gives◌, first_fitting, or_else}
 
 -- a byte as it is, or its number where it is no visible one of ASCII
 abbrev pub found_byte : ℕ → List ℕ
@@ -14,19 +14,27 @@ begins_with [] bytes = true
 begins_with (a ∷ rest) [] = false
 begins_with (a ∷ rest) (b ∷ bytes) = (a == b) && begins_with rest bytes
 
-abbrev pub bad_byte_rows : List ℕ → List Row
-bad_byte_rows bytes =
+abbrev pub rows_of_signs : List ℕ → List Row
+rows_of_signs bytes =
     (begins_with (codes "//") bytes gives codes "a comment begins with #")
     ∷ (begins_with (codes "/") bytes gives codes "division is div(a, 2), and what is left over is mod(a, 2)")
     ∷ (begins_with (codes "%") bytes gives codes "what is left over is mod(a, 2)")
     ∷ (begins_with (codes "^") bytes gives codes "there are no powers; write a product")
     ∷ (begins_with (codes "|") bytes gives codes "or is ||; that k divides a is written k divides a")
-    ∷ (begins_with (codes "&") bytes gives codes "and is &&")
+    ∷ []
+
+abbrev pub rows_of_marks : List ℕ → List Row
+rows_of_marks bytes =
+    (begins_with (codes "&") bytes gives codes "and is &&")
     ∷ (begins_with (codes "~") bytes gives codes "not is !")
     ∷ (begins_with (codes ".") bytes gives codes "numbers are whole, and there are no ranges")
     ∷ (begins_with (codes "?") bytes gives codes "a choice between values is if p then a else b")
     ∷ (begins_with (codes "'") bytes gives codes "a name is made of letters, digits and _")
-    ∷ (begins_with (34 ∷ []) bytes gives codes "there are no texts")
+    ∷ []
+
+abbrev pub rows_of_others : List ℕ → List Row
+rows_of_others bytes =
+    (begins_with (34 ∷ []) bytes gives codes "there are no texts")
     ∷ (begins_with (226 ∷ 137 ∷ 164 ∷ []) bytes gives codes "write <=")
     ∷ (begins_with (226 ∷ 137 ∷ 165 ∷ []) bytes gives codes "write >=")
     ∷ (begins_with (226 ∷ 137 ∷ 160 ∷ []) bytes gives codes "write !=")
@@ -35,7 +43,8 @@ bad_byte_rows bytes =
 
 -- the help for these bytes
 abbrev pub bad_byte_help : List ℕ → Option (List ℕ)
-bad_byte_help bytes = first_fitting (bad_byte_rows bytes)
+bad_byte_help bytes =
+    or_else (first_fitting (rows_of_signs bytes)) (or_else (first_fitting (rows_of_marks bytes)) (first_fitting (rows_of_others bytes)))
 
 abbrev pub found_first : List ℕ → List ℕ
 found_first [] = found_byte 0

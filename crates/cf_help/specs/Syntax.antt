@@ -209,11 +209,11 @@ rows_of_signs v p n before =
     (not (is_some v) gives codes "the text ends too early: a ), an else, an in or a body is missing")
     ∷ (is_comparison v && ends_value p gives codes "a chain runs one way, of < <= == or of > >= ==; join others by &&")
     ∷ ((is_sign (codes ">") v && is_some_sign (codes "=" ∷ codes "-" ∷ []) p) || (is_sign (codes "=") v && is_sign (codes ">") n)
-      gives codes "implication is ==>")
+    gives codes "implication is ==>")
     ∷ (is_sign (codes ">") v && is_sign (codes "<") p gives codes "not equal is !=")
     ∷ (is_sign (codes "=") v && is_sign (codes "<") n gives codes "at most is <=")
     ∷ (is_sign (codes "=") v && (is_sign (codes ")") p && is_section (codes "def") before)
-      gives codes "a function has a result type: def f(x: int): int = ..")
+    gives codes "a function has a result type: def f(x: int): int = ..")
     ∷ (is_sign (codes "=") v && ends_value p gives codes "a comparison is ==; = stands behind def, const and let")
     ∷ []
 
@@ -234,7 +234,7 @@ rows_of_items v p before =
     ∷ (is_sign (codes "-") v && (is_name p && is_behind_binder (second_of before)) gives codes "a name is made of letters, digits and _")
     ∷ (is_word (codes "with") p gives codes "the arms stand in braces: match a with { 2 * i then i ; i then 0 }")
     ∷ (is_reserved_word v && (is_behind_binder p || (is_some_sign (codes "(" ∷ codes "," ∷ codes ";" ∷ []) p && is_in_list before))
-      gives reserved_text (word_of v))
+    gives reserved_text (word_of v))
     ∷ (is_operation_word v && is_word (codes "def") p gives operation_text (word_of v))
     ∷ []
 
@@ -245,7 +245,7 @@ rows_of_lists v p before =
     ∷ (is_sign (codes ")") v && (is_sign (codes ";") p && is_in_list before) gives codes "hidden outputs stand behind the ;")
     ∷ (is_sign (codes ";") v && (is_sign (codes "(") p && is_in_list before) gives codes "an output stands before the ;")
     ∷ (is_some_sign (codes ")" ∷ codes "," ∷ codes ";" ∷ []) v && (is_name p && is_in_list before)
-      gives codes "each parameter and output has a type: (x: int)")
+    gives codes "each parameter and output has a type: (x: int)")
     ∷ (is_sign (codes ":") v && is_section (codes "where") before gives codes "types stand in the list of outputs alone")
     ∷ (is_some (word_of v) && is_word (codes "choose") p gives codes "the outputs stand in parentheses: choose (x: int) where ..")
     ∷ (is_word (codes "in") v && is_section (codes "where") before gives codes "there is no membership; sets have subset, inter and card")

@@ -10,7 +10,7 @@ ghost use Rattle.cf_help.specs.AskedView.{found_seen};
 ghost use Rattle.cf_help.specs.Faults.{none_is_not as none_is_not_of, not_single_one, not_single as not_single_of, not_sides as not_sides_of, asked_found as asked_found_of, type_text as type_text_of, clash_there, not_links as not_links_of, not_params as not_params_of, not_arms as not_arms_of, not_given as not_given_of, not_aim as not_aim_of, not_one as not_one_of, not_types as not_types_of, not_numbers as not_numbers_of, params_of as params_of_def, where_at as where_at_of, clash as clash_of, mismatch_words as mismatch_words_of, mismatch_at as mismatch_at_of, item_clash as item_clash_of};
 ghost use Rattle.cf_help.specs.Rows.{or_else as or_else_of};
 ghost use Rattle.cf_help.specs.ScopeView.{around_of, bindings_seen, def_seen};
-ghost use Rattle.cf_help.specs.Spots.{matched_value, variables_of_item, bases_in as bases_in_of, bases_of_arm as bases_of_arm_in, function_of as function_of_name};
+ghost use Rattle.cf_help.specs.Spots.{matched_value, bases_in as bases_in_of, bases_of_arm as bases_of_arm_in, function_of as function_of_name};
 
 use crate::bases::{bases_in, bases_of_arm, function_of};
 use crate::lines::same_place;
@@ -497,16 +497,18 @@ pub fn mismatch_at<'a>(
 }
 
 // The expression of a constant that is no number.
-fn const_clash(
+fn const_clash<'a>(
     alloc: Global,
     place: Place,
     around: &Around,
-    value: &Raw,
+    variables: &[Binding<'a>],
+    value: &'a Raw,
 ) -> Result<Option<Text>, NoMemory>
-    ensures { IfOk result (λ t. t ≡ where_at_of place value.now.place (not_one_of Int (bases_in_of (around_of around.now) [] (raw_tree value.now)))) }
+    ensures { IfOk result (λ t. t ≡ where_at_of place value.now.place (not_one_of Int
+        (bases_in_of (around_of around.now) (bindings_seen variables.now) (raw_tree value.now)))) }
 {
     if same_place(place, value.place) {
-        is_not(alloc, around, &[], Base::Int, value)
+        is_not(alloc, around, variables, Base::Int, value)
     } else {
         Ok(None)
     }
@@ -533,6 +535,22 @@ fn body_clash<'a>(
     }
 }
 
+// What is wrong with the type of the expression of an item.
+fn item_clash<'a>(
+    alloc: Global,
+    place: Place,
+    around: &Around,
+    variables: &[Binding<'a>],
+    item: &'a RawItem,
+) -> Result<Option<Text>, NoMemory>
+    ensures { IfOk result (λ t. t ≡ item_clash_of place (around_of around.now) (bindings_seen variables.now) (raw_item_tree item.now)) }
+{
+    match item {
+        RawItem::Const(constant) => const_clash(alloc, place, around, variables, &constant.value),
+        RawItem::Def(def) => body_clash(alloc, place, around, variables, def),
+    }
+}
+
 /// What is told of the expression of an item over these variables, which has another type than the
 /// item asks.
 pub fn item_mismatch<'a>(
@@ -542,12 +560,9 @@ pub fn item_mismatch<'a>(
     variables: &[Binding<'a>],
     item: &'a RawItem,
 ) -> Result<Option<FaultWords>, NoMemory>
-    ensures { bindings_seen variables.now ≡ variables_of_item (raw_item_tree item.now) → IfOk result (λ o. found_seen o
+    ensures { IfOk result (λ o. found_seen o
         ≡ mismatch_words_of (item_clash_of place (around_of around.now) (bindings_seen variables.now) (raw_item_tree item.now))) }
 {
-    let text = match item {
-        RawItem::Const(constant) => const_clash(alloc, place, around, &constant.value)?,
-        RawItem::Def(def) => body_clash(alloc, place, around, variables, def)?,
-    };
+    let text = item_clash(alloc, place, around, variables, item)?;
     mismatch_words(alloc, text)
 }

@@ -194,7 +194,8 @@ pub fn is_zero(kind: Option<&TokenKind>) -> bool
 
 // Whether a word is reserved, or where `other` is asked, whether it is another one.
 fn is_by_reserved(other: bool, word: Option<&[u8]>) -> bool
-    ensures { result ≡ (if other then is_other_than_texts (reserved_words Three) (text_seen word.entry) else is_one_of_texts (reserved_words Three) (text_seen word.entry)) }
+    ensures { result ≡ (if other then is_other_than_texts (reserved_words Three) (text_seen word.entry) else is_one_of_texts (reserved_words Three)
+        (text_seen word.entry)) }
 {
     let words = [
         b"def".as_slice(),

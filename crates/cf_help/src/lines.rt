@@ -97,7 +97,10 @@ fn line_of(text: &[u8], place: Place) -> &[u8]
 pub fn bytes_at(text: &[u8], place: Place) -> &[u8]
     ensures { result.now ≡ bytes_at_of text.now place }
 {
-    behind(behind_lines(text, place.line.saturating_sub(1)), before(place))
+    behind(
+        behind_lines(text, place.line.saturating_sub(1)),
+        before(place),
+    )
 }
 
 // The line, but for a carriage return as its last byte.
@@ -183,7 +186,10 @@ pub fn source_lines(alloc: Global, text: &[u8], place: Place) -> Result<Text, No
     if is_shown(row) {
         let row = shown(alloc, row)?;
         let caret = caret_line(alloc, line, place)?;
-        joined(alloc, &[&row.bytes, b"\n".as_slice(), &caret.bytes, b"\n".as_slice()])
+        joined(
+            alloc,
+            &[&row.bytes, b"\n".as_slice(), &caret.bytes, b"\n".as_slice()],
+        )
     } else {
         joined(alloc, &[])
     }

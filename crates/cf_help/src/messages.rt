@@ -54,7 +54,10 @@ fn help_line(alloc: Global, help: &Option<Text>) -> Result<Text, NoMemory>
 {
     match help {
         None => joined(alloc, &[]),
-        Some(help) => joined(alloc, &[b"help: ".as_slice(), &help.bytes, b"\n".as_slice()]),
+        Some(help) => joined(
+            alloc,
+            &[b"help: ".as_slice(), &help.bytes, b"\n".as_slice()],
+        ),
     }
 }
 

@@ -7,7 +7,9 @@ ghost use Rattle.cf_program.specs.Names.{is_among as is_among_names};
 ghost use Rattle.cf_help.specs.Spots.{is_bound as is_bound_of, is_variable as is_variable_of};
 ghost use Rattle.cf_help.specs.Numbers.{has_variables as has_variables_of, pattern_place, numbered, all_numbered, given_numbered, aim_numbered, arm_numbered, arms_numbered, numbered_items, put_by, number_place as number_place_of, function_place as function_place_of};
 
-use cf_tree::{NoMemory, Number, Part, Place, Program, Raw, RawAim, RawArm, RawGiven, RawItem, RawNode};
+use cf_tree::{
+    NoMemory, Number, Part, Place, Program, Raw, RawAim, RawArm, RawGiven, RawItem, RawNode,
+};
 use std::alloc::Global;
 
 /// Whether a name is one of these.

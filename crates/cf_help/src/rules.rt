@@ -195,6 +195,35 @@ fn add_item<'a>(
     Ok(())
 }
 
+// What is seen of an item that stands among these.
+#[tactic(auto, unfolding(crate::specs::ScopeView::around_of))]
+fn see_among<'x>(
+    alloc: Global,
+    how: Linearity,
+    fault: TypeFault,
+    values: &'x [Valued<'x>],
+    constants: &'x [&'x [u8]],
+    earlier: &'x [&'x RawDef],
+    functions: &'x [&'x RawDef],
+    item: &'x RawItem,
+) -> Result<Option<FaultWords>, NoMemory>
+    ensures { IfOk result (λ o. found_seen o ≡ seen_of_item how (map constant_seen values.now) fault
+        (around_by constants.now earlier.now (defs_seen functions.now)) (raw_item_tree item.now)) }
+{
+    let asked = Asked {
+        alloc,
+        how,
+        values,
+        fault,
+        around: Around {
+            constants,
+            earlier,
+            functions,
+        },
+    };
+    see_item(&asked, item)
+}
+
 // What is seen first of these items.
 fn see_items<'a>(
     alloc: Global,
@@ -210,18 +239,16 @@ fn see_items<'a>(
     let mut constants = Vec::new(alloc);
     let mut earlier = Vec::new(alloc);
     for item in items {
-        let asked = Asked {
+        match see_among(
             alloc,
             how,
-            values,
             fault,
-            around: Around {
-                constants: &constants,
-                earlier: &earlier,
-                functions,
-            },
-        };
-        match see_item(&asked, item)? {
+            &*values,
+            &constants,
+            &earlier,
+            &*functions,
+            &*item,
+        )? {
             Some(words) => return Ok(Some(words)),
             None => {}
         }

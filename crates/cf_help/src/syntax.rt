@@ -1,9 +1,9 @@
 //! Words about places at which reading stops: the token, and the help of the first row of the table that fits.
-ghost use Rattle.std.specs.Prelude.{◌≡◌, IfOk};
+ghost use Rattle.std.specs.Prelude.{◌≡◌, take, drop, ◌∷◌, [], ◌&&◌, ◌||◌, codes, is_some, IfOk};
 ghost use Rattle.cf_help.specs.Messages.{syntax_words as syntax_words_of};
 ghost use Rattle.cf_help.specs.Rows.{first_fitting as first_fitting_of, or_else as or_else_of};
 ghost use Rattle.cf_help.specs.StopView.{kind_seen, kinds_seen, text_seen, stop_of};
-ghost use Rattle.cf_help.specs.Syntax.{word_of as word_of_kind, foreign_help as foreign_help_of, foreign_at as foreign_at_of, reserved_text as reserved_text_of, operation_text as operation_text_of, rows_of_signs, rows_of_items, rows_of_lists, rows_of_values, is_behind_literal as is_behind_literal_of, syntax_help as syntax_help_of};
+ghost use Rattle.cf_help.specs.Syntax.{second_of, is_comparison as is_comparison_of, ends_value as ends_value_of, is_base_word as is_base_word_of, begins_with_line as begins_with_line_of, is_zero as is_zero_of, is_sign as is_sign_of, is_some_sign as is_some_sign_of, is_word as is_word_of, is_some_word as is_some_word_of, is_name as is_name_of, is_in_list as is_in_list_of, is_section as is_section_of, word_of as word_of_kind, foreign_help as foreign_help_of, foreign_at as foreign_at_of, reserved_text as reserved_text_of, operation_text as operation_text_of, rows_of_signs, rows_of_items, rows_of_lists, rows_of_values, is_behind_literal as is_behind_literal_of, syntax_help as syntax_help_of};
 ghost use Rattle.cf_help.specs.WordsView.{words_of};
 
 use crate::kinds::{
@@ -14,7 +14,9 @@ use crate::kinds::{
 use crate::lines::bytes_at;
 use crate::pieces::{help_text, in_quotes, joined};
 use crate::rows::{first_fitting, row};
-use crate::stop::{Stop, before_list, first, is_behind_header, is_in_list, is_section, second, stop_at};
+use crate::stop::{
+    Stop, before_list, first, is_behind_header, is_in_list, is_section, second, stop_at,
+};
 use crate::words::FaultWords;
 use crate::written::found_token;
 use cf_lex::{Token, TokenKind};
@@ -59,43 +61,110 @@ fn foreign_at(refused: Option<&TokenKind>, before: &[&TokenKind]) -> Option<&'st
     or_else(here, or_else(one_before, list))
 }
 
-// The first rows: the end, comparisons and `=`.
-fn of_signs(
+// A comparison behind a value.
+fn is_chain(v: Option<&TokenKind>, p: Option<&TokenKind>) -> bool
+    ensures { result ≡ (is_comparison_of (kind_seen v.entry) && ends_value_of (kind_seen p.entry)) }
+{
+    both(is_comparison(v), ends_value(p))
+}
+
+// Another sign for an implication.
+fn is_arrow(v: Option<&TokenKind>, p: Option<&TokenKind>, n: Option<&TokenKind>) -> bool
+    ensures { result ≡ ((is_sign_of (codes ">") (kind_seen v.entry) && is_some_sign_of (codes "=" ∷ codes "-" ∷ []) (kind_seen p.entry)) ||
+        (is_sign_of (codes "=") (kind_seen v.entry) && is_sign_of (codes ">") (kind_seen n.entry))) }
+{
+    let here = both(
+        is_sign(b">", v),
+        is_some_sign(&[b"=".as_slice(), b"-".as_slice()], p),
+    );
+    either(here, both(is_sign(b"=", v), is_sign(b">", n)))
+}
+
+// Another sign for `!=`.
+fn is_unequal(v: Option<&TokenKind>, p: Option<&TokenKind>) -> bool
+    ensures { result ≡ (is_sign_of (codes ">") (kind_seen v.entry) && is_sign_of (codes "<") (kind_seen p.entry)) }
+{
+    both(is_sign(b">", v), is_sign(b"<", p))
+}
+
+// Another sign for `<=`.
+fn is_at_most(v: Option<&TokenKind>, n: Option<&TokenKind>) -> bool
+    ensures { result ≡ (is_sign_of (codes "=") (kind_seen v.entry) && is_sign_of (codes "<") (kind_seen n.entry)) }
+{
+    both(is_sign(b"=", v), is_sign(b"<", n))
+}
+
+// A function without a result type.
+fn lacks_results(v: Option<&TokenKind>, p: Option<&TokenKind>, before: &[&TokenKind]) -> bool
+    ensures { result ≡ (is_sign_of (codes "=") (kind_seen v.entry) &&
+        (is_sign_of (codes ")") (kind_seen p.entry) && is_section_of (codes "def") (kinds_seen before.now))) }
+{
+    let listed = both(is_sign(b")", p), is_section(b"def", before));
+    both(is_sign(b"=", v), listed)
+}
+
+// A `=` behind a value.
+fn is_single(v: Option<&TokenKind>, p: Option<&TokenKind>) -> bool
+    ensures { result ≡ (is_sign_of (codes "=") (kind_seen v.entry) && ends_value_of (kind_seen p.entry)) }
+{
+    both(is_sign(b"=", v), ends_value(p))
+}
+
+// The first rows: the end and comparisons.
+fn of_chains(
     v: Option<&TokenKind>,
     p: Option<&TokenKind>,
     n: Option<&TokenKind>,
     before: &[&TokenKind],
 ) -> Option<&'static [u8]>
-    ensures { text_seen result ≡ first_fitting_of (rows_of_signs (kind_seen v.entry) (kind_seen p.entry) (kind_seen n.entry) (kinds_seen before.now)) }
+    ensures { text_seen result ≡ first_fitting_of (take 4 (rows_of_signs (kind_seen v.entry) (kind_seen p.entry) (kind_seen n.entry) (kinds_seen before.now))) }
 {
-    let equal = is_sign(b"=", v);
-    let greater = is_sign(b">", v);
-    let value = ends_value(p);
-    let chain = both(is_comparison(v), value);
-    let arrow = both(greater, is_some_sign(&[b"=".as_slice(), b"-".as_slice()], p));
-    let implies = either(arrow, both(equal, is_sign(b">", n)));
-    let typeless = both(is_sign(b")", p), is_section(b"def", before));
     first_fitting(&[
         row(
             is_end(v),
             b"the text ends too early: a ), an else, an in or a body is missing",
         ),
         row(
-            chain,
+            is_chain(v, p),
             b"a chain runs one way, of < <= == or of > >= ==; join others by &&",
         ),
-        row(implies, b"implication is ==>"),
-        row(both(greater, is_sign(b"<", p)), b"not equal is !="),
-        row(both(equal, is_sign(b"<", n)), b"at most is <="),
+        row(is_arrow(v, p, n), b"implication is ==>"),
+        row(is_unequal(v, p), b"not equal is !="),
+    ])
+}
+
+// The rows of `=`.
+fn of_equals(
+    v: Option<&TokenKind>,
+    p: Option<&TokenKind>,
+    n: Option<&TokenKind>,
+    before: &[&TokenKind],
+) -> Option<&'static [u8]>
+    ensures { text_seen result ≡ first_fitting_of (drop 4 (rows_of_signs (kind_seen v.entry) (kind_seen p.entry) (kind_seen n.entry) (kinds_seen before.now))) }
+{
+    first_fitting(&[
+        row(is_at_most(v, n), b"at most is <="),
         row(
-            both(equal, typeless),
+            lacks_results(v, p, before),
             b"a function has a result type: def f(x: int): int = ..",
         ),
         row(
-            both(equal, value),
+            is_single(v, p),
             b"a comparison is ==; = stands behind def, const and let",
         ),
     ])
+}
+
+#[tactic(auto, using(crate::proofs::RowSteps::split_rows))]
+fn of_signs(
+    v: Option<&TokenKind>,
+    p: Option<&TokenKind>,
+    n: Option<&TokenKind>,
+    before: &[&TokenKind],
+) -> Option<&'static [u8]>
+    ensures { text_seen result ≡ first_fitting_of ((rows_of_signs (kind_seen v.entry) (kind_seen p.entry) (kind_seen n.entry) (kinds_seen before.now))) }
+{
+    or_else(of_chains(v, p, n, before), of_equals(v, p, n, before))
 }
 
 fn reserved_text(alloc: Global, word: Option<&[u8]>) -> Result<Text, NoMemory>
@@ -152,7 +221,10 @@ fn of_items<'a>(
     let bound = either(is_behind_binder(p), both(opened, is_in_list(before)));
     first_fitting(&[
         row(is_other_def(v), b"a function begins with def"),
-        row(both(start, is_behind_header(before)), b"a comment begins with #"),
+        row(
+            both(start, is_behind_header(before)),
+            b"a comment begins with #",
+        ),
         row(
             both(is_sign(b"-", v), dashed),
             b"a name is made of letters, digits and _",
@@ -166,112 +238,303 @@ fn of_items<'a>(
     ])
 }
 
-// The rows of types and lists.
-fn of_lists(
+// A parenthesis in that of a type.
+fn is_nested_type(v: Option<&TokenKind>, p: Option<&TokenKind>, before: &[&TokenKind]) -> bool
+    ensures { result ≡ (is_sign_of (codes "(") (kind_seen v.entry) &&
+        (is_sign_of (codes "(") (kind_seen p.entry) && is_sign_of (codes ":") (second_of (kinds_seen before.now)))) }
+{
+    let inner = both(is_sign(b"(", p), is_sign(b":", second(before)));
+    both(is_sign(b"(", v), inner)
+}
+
+// Another word for a type.
+fn is_other_type(v: Option<&TokenKind>, p: Option<&TokenKind>) -> bool
+    ensures { result ≡ ((is_name_of (kind_seen v.entry) || is_sign_of (codes "(") (kind_seen v.entry)) && is_sign_of (codes ":") (kind_seen p.entry)) }
+{
+    let named = either(is_name(v), is_sign(b"(", v));
+    both(named, is_sign(b":", p))
+}
+
+// No hidden outputs behind the `;`.
+fn lacks_hidden(v: Option<&TokenKind>, p: Option<&TokenKind>, before: &[&TokenKind]) -> bool
+    ensures { result ≡ (is_sign_of (codes ")") (kind_seen v.entry) && (is_sign_of (codes ";") (kind_seen p.entry) && is_in_list_of (kinds_seen before.now))) }
+{
+    let behind = both(is_sign(b";", p), is_in_list(before));
+    both(is_sign(b")", v), behind)
+}
+
+// No outputs before the `;`.
+fn lacks_outputs(v: Option<&TokenKind>, p: Option<&TokenKind>, before: &[&TokenKind]) -> bool
+    ensures { result ≡ (is_sign_of (codes ";") (kind_seen v.entry) && (is_sign_of (codes "(") (kind_seen p.entry) && is_in_list_of (kinds_seen before.now))) }
+{
+    let behind = both(is_sign(b"(", p), is_in_list(before));
+    both(is_sign(b";", v), behind)
+}
+
+// A name without a type in a list.
+fn lacks_type(v: Option<&TokenKind>, p: Option<&TokenKind>, before: &[&TokenKind]) -> bool
+    ensures { result ≡ (is_some_sign_of (codes ")" ∷ codes "," ∷ codes ";" ∷ []) (kind_seen v.entry) &&
+        (is_name_of (kind_seen p.entry) && is_in_list_of (kinds_seen before.now))) }
+{
+    let ended = is_some_sign(&[b")".as_slice(), b",".as_slice(), b";".as_slice()], v);
+    both(ended, both(is_name(p), is_in_list(before)))
+}
+
+// A type in a relation.
+fn is_late_type(v: Option<&TokenKind>, before: &[&TokenKind]) -> bool
+    ensures { result ≡ (is_sign_of (codes ":") (kind_seen v.entry) && is_section_of (codes "where") (kinds_seen before.now)) }
+{
+    both(is_sign(b":", v), is_section(b"where", before))
+}
+
+// Outputs without parentheses.
+fn lacks_parentheses(v: Option<&TokenKind>, p: Option<&TokenKind>) -> bool
+    ensures { result ≡ (is_some (word_of_kind (kind_seen v.entry)) && is_word_of (codes "choose") (kind_seen p.entry)) }
+{
+    both(is_any_word(v), is_word(b"choose", p))
+}
+
+// A membership in a relation.
+fn is_membership(v: Option<&TokenKind>, before: &[&TokenKind]) -> bool
+    ensures { result ≡ (is_word_of (codes "in") (kind_seen v.entry) && is_section_of (codes "where") (kinds_seen before.now)) }
+{
+    both(is_word(b"in", v), is_section(b"where", before))
+}
+
+// The rows of types.
+fn of_types(
     v: Option<&TokenKind>,
     p: Option<&TokenKind>,
     before: &[&TokenKind],
 ) -> Option<&'static [u8]>
-    ensures { text_seen result ≡ first_fitting_of (rows_of_lists (kind_seen v.entry) (kind_seen p.entry) (kinds_seen before.now)) }
+    ensures { text_seen result ≡ first_fitting_of (take 3 (rows_of_lists (kind_seen v.entry) (kind_seen p.entry) (kinds_seen before.now))) }
 {
-    let listed = is_in_list(before);
-    let related = is_section(b"where", before);
-    let open = is_sign(b"(", p);
-    let parted = is_sign(b";", v);
-    let nested = both(open, is_sign(b":", second(before)));
-    let typed = either(is_name(v), is_sign(b"(", v));
-    let ended = is_some_sign(&[b")".as_slice(), b",".as_slice(), b";".as_slice()], v);
     first_fitting(&[
         row(
-            both(is_sign(b"(", v), nested),
+            is_nested_type(v, p, before),
             b"a tuple is flat: (int, int, int)",
         ),
-        row(both(typed, is_sign(b":", p)), b"a type is int, bool or set"),
+        row(is_other_type(v, p), b"a type is int, bool or set"),
         row(
-            both(is_sign(b")", v), both(is_sign(b";", p), listed)),
+            lacks_hidden(v, p, before),
             b"hidden outputs stand behind the ;",
         ),
-        row(both(parted, both(open, listed)), b"an output stands before the ;"),
+    ])
+}
+
+// The rows of lists.
+fn of_parts(
+    v: Option<&TokenKind>,
+    p: Option<&TokenKind>,
+    before: &[&TokenKind],
+) -> Option<&'static [u8]>
+    ensures { text_seen result ≡ first_fitting_of (take 3 (drop 3 (rows_of_lists (kind_seen v.entry) (kind_seen p.entry) (kinds_seen before.now)))) }
+{
+    first_fitting(&[
         row(
-            both(ended, both(is_name(p), listed)),
+            lacks_outputs(v, p, before),
+            b"an output stands before the ;",
+        ),
+        row(
+            lacks_type(v, p, before),
             b"each parameter and output has a type: (x: int)",
         ),
         row(
-            both(is_sign(b":", v), related),
+            is_late_type(v, before),
             b"types stand in the list of outputs alone",
         ),
+    ])
+}
+
+// The rows of outputs and members.
+fn of_outputs(
+    v: Option<&TokenKind>,
+    p: Option<&TokenKind>,
+    before: &[&TokenKind],
+) -> Option<&'static [u8]>
+    ensures { text_seen result ≡ first_fitting_of (drop 3 (drop 3 (rows_of_lists (kind_seen v.entry) (kind_seen p.entry) (kinds_seen before.now)))) }
+{
+    first_fitting(&[
         row(
-            both(is_any_word(v), is_word(b"choose", p)),
+            lacks_parentheses(v, p),
             b"the outputs stand in parentheses: choose (x: int) where ..",
         ),
         row(
-            both(is_word(b"in", v), related),
+            is_membership(v, before),
             b"there is no membership; sets have subset, inter and card",
         ),
         row(
-            parted,
+            is_sign(b";", v),
             b"a ; stands only between outputs and hidden ones, and between arms",
         ),
     ])
 }
 
-// Whether a name stands behind a literal that is not the header's.
-fn is_behind_literal(
+#[tactic(auto, using(crate::proofs::RowSteps::split_rows))]
+fn of_most_lists(
     v: Option<&TokenKind>,
     p: Option<&TokenKind>,
     before: &[&TokenKind],
-) -> bool
+) -> Option<&'static [u8]>
+    ensures { text_seen result ≡ first_fitting_of (drop 3 (rows_of_lists (kind_seen v.entry) (kind_seen p.entry) (kinds_seen before.now))) }
+{
+    or_else(of_parts(v, p, before), of_outputs(v, p, before))
+}
+
+#[tactic(auto, using(crate::proofs::RowSteps::split_rows))]
+fn of_lists(
+    v: Option<&TokenKind>,
+    p: Option<&TokenKind>,
+    before: &[&TokenKind],
+) -> Option<&'static [u8]>
+    ensures { text_seen result ≡ first_fitting_of ((rows_of_lists (kind_seen v.entry) (kind_seen p.entry) (kinds_seen before.now))) }
+{
+    or_else(of_types(v, p, before), of_most_lists(v, p, before))
+}
+
+// Whether a name stands behind a literal that is not the header's.
+fn is_behind_literal(v: Option<&TokenKind>, p: Option<&TokenKind>, before: &[&TokenKind]) -> bool
     ensures { result ≡ is_behind_literal_of (kind_seen v.entry) (kind_seen p.entry) (kinds_seen before.now) }
 {
     let literal = is_literal(p);
     both(is_name(v), both(literal, !is_behind_header(before)))
 }
 
-// The last rows: braces, numbers, and words that stand elsewhere.
-fn of_values(
+// A body without a `=`.
+fn lacks_equal(v: Option<&TokenKind>, p: Option<&TokenKind>) -> bool
+    ensures { result ≡ (is_sign_of (codes "{") (kind_seen v.entry) && (is_base_word_of (kind_seen p.entry) || is_sign_of (codes ")") (kind_seen p.entry))) }
+{
+    let typed = either(is_base_word(p), is_sign(b")", p));
+    both(is_sign(b"{", v), typed)
+}
+
+// Digits in groups.
+fn is_grouped(v: Option<&TokenKind>, p: Option<&TokenKind>, before: &[&TokenKind]) -> bool
+    ensures { result ≡ (is_behind_literal_of (kind_seen v.entry) (kind_seen p.entry) (kinds_seen before.now) && begins_with_line_of
+        (word_of_kind (kind_seen v.entry))) }
+{
+    both(
+        is_behind_literal(v, p, before),
+        begins_with_line(word_of(v)),
+    )
+}
+
+// A divisor of 0.
+fn is_zero_divisor(v: Option<&TokenKind>, p: Option<&TokenKind>) -> bool
+    ensures { result ≡ (is_zero_of (kind_seen v.entry) && is_sign_of (codes ",") (kind_seen p.entry)) }
+{
+    both(is_zero(v), is_sign(b",", p))
+}
+
+// A `divides` behind a value.
+fn is_divided(v: Option<&TokenKind>, p: Option<&TokenKind>) -> bool
+    ensures { result ≡ (is_word_of (codes "divides") (kind_seen v.entry) && ends_value_of (kind_seen p.entry)) }
+{
+    both(is_word(b"divides", v), ends_value(p))
+}
+
+// A `given` behind the relation.
+fn is_late_given(v: Option<&TokenKind>, before: &[&TokenKind]) -> bool
+    ensures { result ≡ (is_word_of (codes "given") (kind_seen v.entry) && is_section_of (codes "where") (kinds_seen before.now)) }
+{
+    both(is_word(b"given", v), is_section(b"where", before))
+}
+
+// The rows of braces and digits.
+fn of_braces(
     v: Option<&TokenKind>,
     p: Option<&TokenKind>,
     before: &[&TokenKind],
 ) -> Option<&'static [u8]>
-    ensures { text_seen result ≡ first_fitting_of (rows_of_values (kind_seen v.entry) (kind_seen p.entry) (kinds_seen before.now)) }
+    ensures { text_seen result ≡ first_fitting_of (take 3 (rows_of_values (kind_seen v.entry) (kind_seen p.entry) (kinds_seen before.now))) }
 {
-    let typed = either(is_base_word(p), is_sign(b")", p));
-    let behind = is_behind_literal(v, p, before);
-    let words = [
-        b"let".as_slice(),
-        b"if".as_slice(),
-        b"choose".as_slice(),
-        b"match".as_slice(),
-    ];
     first_fitting(&[
         row(
-            both(is_sign(b"{", v), typed),
+            lacks_equal(v, p),
             b"a body stands behind =: def f(x: int): int = x",
         ),
         row(
             is_some_sign(&[b"[".as_slice(), b"]".as_slice()], v),
             b"there are no lists; a set is {1, 2}",
         ),
+        row(is_grouped(v, p, before), b"digits are written without _"),
+    ])
+}
+
+// The rows of products and divisors.
+fn of_products(
+    v: Option<&TokenKind>,
+    p: Option<&TokenKind>,
+    before: &[&TokenKind],
+) -> Option<&'static [u8]>
+    ensures { text_seen result ≡ first_fitting_of (take 3 (drop 3 (rows_of_values (kind_seen v.entry) (kind_seen p.entry) (kinds_seen before.now)))) }
+{
+    first_fitting(&[
         row(
-            both(behind, begins_with_line(word_of(v))),
-            b"digits are written without _",
+            is_behind_literal(v, p, before),
+            b"a product is written with *",
         ),
-        row(behind, b"a product is written with *"),
-        row(both(is_zero(v), is_sign(b",", p)), b"a divisor is at least 1"),
+        row(is_zero_divisor(v, p), b"a divisor is at least 1"),
         row(
-            both(is_word(b"divides", v), ends_value(p)),
+            is_divided(v, p),
             b"the left side of divides is a constant or a literal of at least 1",
         ),
-        row(
-            both(is_word(b"given", v), is_section(b"where", before)),
-            b"given stands before where",
-        ),
+    ])
+}
+
+// Whether a form stands inside an operation.
+fn is_inside(v: Option<&TokenKind>) -> bool
+    ensures { result ≡ is_some_word_of (codes "let" ∷ codes "if" ∷ codes "choose" ∷ codes "match" ∷ []) (kind_seen v.entry) }
+{
+    is_some_word(
+        &[
+            b"let".as_slice(),
+            b"if".as_slice(),
+            b"choose".as_slice(),
+            b"match".as_slice(),
+        ],
+        v,
+    )
+}
+
+// The rows of words that stand elsewhere.
+fn of_words(
+    v: Option<&TokenKind>,
+    p: Option<&TokenKind>,
+    before: &[&TokenKind],
+) -> Option<&'static [u8]>
+    ensures { text_seen result ≡ first_fitting_of (drop 3 (drop 3 (rows_of_values (kind_seen v.entry) (kind_seen p.entry) (kinds_seen before.now)))) }
+{
+    first_fitting(&[
+        row(is_late_given(v, before), b"given stands before where"),
         row(is_word(b"const", v), b"const stands among the functions"),
         row(
-            is_some_word(&words, v),
+            is_inside(v),
             b"it stands in parentheses inside an operation",
         ),
     ])
+}
+
+#[tactic(auto, using(crate::proofs::RowSteps::split_rows))]
+fn of_most_values(
+    v: Option<&TokenKind>,
+    p: Option<&TokenKind>,
+    before: &[&TokenKind],
+) -> Option<&'static [u8]>
+    ensures { text_seen result ≡ first_fitting_of (drop 3 (rows_of_values (kind_seen v.entry) (kind_seen p.entry) (kinds_seen before.now))) }
+{
+    or_else(of_products(v, p, before), of_words(v, p, before))
+}
+
+#[tactic(auto, using(crate::proofs::RowSteps::split_rows))]
+fn of_values(
+    v: Option<&TokenKind>,
+    p: Option<&TokenKind>,
+    before: &[&TokenKind],
+) -> Option<&'static [u8]>
+    ensures { text_seen result ≡ first_fitting_of ((rows_of_values (kind_seen v.entry) (kind_seen p.entry) (kinds_seen before.now))) }
+{
+    or_else(of_braces(v, p, before), of_most_values(v, p, before))
 }
 
 // The help of the rows of functions, names and arms, else of those behind them.

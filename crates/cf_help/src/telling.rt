@@ -92,7 +92,12 @@ fn choose_words(alloc: Global, number: u32, reason: &[u8]) -> Result<FaultWords,
     let number = number_text(alloc, number as u64)?;
     let what = joined(
         alloc,
-        &[b"choose ".as_slice(), &number.bytes, b": ".as_slice(), reason],
+        &[
+            b"choose ".as_slice(),
+            &number.bytes,
+            b": ".as_slice(),
+            reason,
+        ],
     )?;
     Ok(FaultWords { what, help: None })
 }
@@ -111,19 +116,12 @@ fn rule_place(fault: TypeFault) -> Option<Place>
         | TypeFault::ConstantPast(place)
         | TypeFault::CallsLater(place)
         | TypeFault::NotLinear(place) => Some(place),
-        TypeFault::NoMain
-        | TypeFault::Weight(_)
-        | TypeFault::Depth(_)
-        | TypeFault::NoMemory => None,
+        TypeFault::NoMain | TypeFault::Weight(_) | TypeFault::Depth(_) | TypeFault::NoMemory =>
+            None,
     }
 }
 
-fn told_bad_byte(
-    alloc: Global,
-    name: &[u8],
-    text: &[u8],
-    place: Place,
-) -> Result<Text, NoMemory>
+fn told_bad_byte(alloc: Global, name: &[u8], text: &[u8], place: Place) -> Result<Text, NoMemory>
     ensures { IfOk result (λ t. t ≡ message_of name.now text.now (Some place) (bad_byte_words_of text.now place)) }
 {
     let words = bad_byte_words(alloc, text, place)?;

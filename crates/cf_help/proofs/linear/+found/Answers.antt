@@ -49,6 +49,6 @@ found_call-returns t c =
     let hs = map held_seen c.args.args.now in
     let vs = map holder_seen c.deref-in-Some.result.now in
     let body : Inside = record { alloc = inside.alloc; callees = inside.callees; count = c.in-Some.number; inputs = inside.inputs } in
-    let params : vs ≡ holders (names_of d.params) hs = search rules in
+    let params : vs ≡ holders (names_of d.params.items) hs = search rules in
     let is = call_is inside body x hs (raw_def_tree d) (backwards (take c.in-Some.number inside.callees.now)) vs c.in-Some.ensures.found refl refl params in
     c.call_fault.ensures (calls_in inside x hs) (subst (λ f. Tells c.in-Err.fault f) (sym is) c.in-Err.ensures)
