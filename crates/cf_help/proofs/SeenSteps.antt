@@ -1,5 +1,5 @@
 -- The first of several.
-use Rattle.std.proofs.Common.{◌≡◌, ℕ, List, [], ◌∷◌, map, length, ◌+◌, Option, Some, None, refl, ap}
+use Rattle.std.proofs.Common.{◌≡◌, ℕ, List, [], ◌∷◌, map, length, Option, Some, None, refl, arith}
 use Rattle.cf_tree.specs.declared.raw.Raw.{Raw}
 use Rattle.cf_tree.specs.RawView.{raw_tree, raw_trees}
 use Rattle.cf_help.specs.Faults.{raws_length}
@@ -28,4 +28,4 @@ kept x b = refl
 
 pub raws_counted : (raws : List Raw) → raws_length (raw_trees raws) ≡ length raws
 raws_counted [] = refl
-raws_counted (r ∷ raws) = ap (λ n. 1 + n) (raws_counted raws)
+raws_counted (r ∷ raws) = omega (arith, raws_counted raws)

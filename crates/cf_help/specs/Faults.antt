@@ -59,7 +59,7 @@ two_types of_ bs cs = concat (of_ ∷ codes " " ∷ type_text bs ∷ codes " and
 
 -- ---- what is wrong with the types of the parts of a form
 -- a part that is no value of this one base
-abbrev pub not_one : Base → List Base → Option (List ℕ)
+unfoldable pub not_one : Base → List Base → Option (List ℕ)
 not_one b bs = if is_one b bs then None else Some (asked_found (base_text b) bs)
 
 abbrev pub not_types : List ℕ → List Base → List Base → Option (List ℕ)
@@ -82,15 +82,15 @@ not_sides None bs cs = if (length bs == 1) && same_bases bs cs then None else So
 
 -- the sides of the order at p
 abbrev pub not_links : Place → Around → List Binding → List Place → RawTrees → Option (List ℕ)
-not_links p r vs [] es = None
-not_links p r vs (q ∷ places) no_raws = None
-not_links p r vs (q ∷ places) (raw_more a no_raws) = None
+not_links p r vs places no_raws = None
+not_links p r vs places (raw_more a no_raws) = None
+not_links p r vs [] (raw_more a (raw_more b es)) = None
 not_links p r vs (q ∷ places) (raw_more a (raw_more b es)) =
     if same_place p q then or_else (not_one Int (bases_in r vs a)) (not_one Int (bases_in r vs b)) else not_links p r vs places (raw_more b es)
 
 abbrev pub not_params : Around → List Binding → List Base → RawTrees → Option (List ℕ)
-not_params r vs [] es = None
-not_params r vs (b ∷ bs) no_raws = None
+not_params r vs bs no_raws = None
+not_params r vs [] (raw_more e es) = None
 not_params r vs (b ∷ bs) (raw_more e es) = or_else (not_one b (bases_in r vs e)) (not_params r vs bs es)
 
 abbrev pub params_of : Option RawDefTree → List Base
@@ -102,7 +102,7 @@ abbrev pub not_arms : Around → List Binding → List Base → RawArmTrees → 
 not_arms r vs bs no_raw_arms = None
 not_arms r vs bs (raw_arm_more a arms) = or_else (not_types (codes "arms") bs (bases_of_arm r vs a)) (not_arms r vs bs arms)
 
-abbrev pub not_numbers : List Base → Option (List ℕ)
+unfoldable pub not_numbers : List Base → Option (List ℕ)
 not_numbers bs = if are_numbers bs then None else Some (asked_found (codes "numbers") bs)
 
 abbrev pub where_at : Place → Place → Option (List ℕ) → Option (List ℕ)
@@ -220,8 +220,8 @@ unknown_at p r outs vs other = number_words r.constants (number_in p other)
 
 -- ---- binders
 abbrev pub binder_at : Place → List Place → List (List ℕ) → Option (List ℕ)
-binder_at p [] xs = None
-binder_at p (q ∷ places) [] = None
+binder_at p places [] = None
+binder_at p [] (x ∷ xs) = None
 binder_at p (q ∷ places) (x ∷ xs) = if same_place p q then Some x else binder_at p places xs
 
 abbrev pub param_at : Place → List Param → Option (List ℕ)
@@ -318,7 +318,7 @@ abbrev pub below_at : List Constant → Place → RawTree → Option Words
 below_at cs p e = below_named cs (number_in p e)
 
 -- ---- causes
-abbrev pub call_text : List ℕ → List ℕ
+unfoldable pub call_text : List ℕ → List ℕ
 call_text f = concat (codes "a call of " ∷ in_quotes f ∷ codes ", which holds " ∷ [])
 
 abbrev pub cause_text : Cause → List ℕ
@@ -353,7 +353,7 @@ known vs = map (λ v. record { name = v.name; held = is_known }) vs
 abbrev pub in_relation : List Binding → List Param → List Param → List Holder
 in_relation vs outputs hidden = known vs ++ all_hold is_unknown outputs ++ all_hold is_unknown hidden
 
-abbrev pub bend_words : Place → Bool → Found → Option Words
+unfoldable pub bend_words : Place → Bool → Found → Option Words
 bend_words p is_given (linear hs) = None
 bend_words p is_given (bends q c) = words_at p q (words (codes "not linear: " ∷ cause_text c ∷ []) (cause_help is_given c))
 
@@ -391,16 +391,16 @@ seen_at how cs (rule.Depth n) r outs vs e = None
 seen_at how cs rule.NoMemory r outs vs e = None
 
 -- what is seen before the expression of an item
-abbrev pub seen_before : TypeFault → Around → RawItemTree → Option Words
+unfoldable pub seen_before : TypeFault → Around → RawItemTree → Option Words
 seen_before (rule.DuplicateName p) r item = duplicate_item p r item
 seen_before fault r item = None
 
 -- what is seen behind it
-abbrev pub seen_behind : TypeFault → Around → RawItemTree → Option Words
+unfoldable pub seen_behind : TypeFault → Around → RawItemTree → Option Words
 seen_behind (rule.Mismatch p) r item = mismatch_words (item_clash p r (variables_of_item item) item)
 seen_behind fault r item = None
 
-abbrev pub seen_of_item : Linearity → List Constant → TypeFault → Around → RawItemTree → Option Words
+unfoldable pub seen_of_item : Linearity → List Constant → TypeFault → Around → RawItemTree → Option Words
 seen_of_item how cs fault r item =
     or_else (seen_before fault r item) (
     or_else (first_in (seen_at how cs fault r) r [] (variables_of_item item) (expression_of item)) (seen_behind fault r item))

@@ -166,9 +166,9 @@ fn all_bases_in<'a>(
     Ok(all)
 }
 
-// Those of the first arm.
+/// Those of the first arm.
 #[cycle(bases)]
-fn arm_bases_in<'a>(
+pub fn arm_bases_in<'a>(
     alloc: Global,
     around: &Around,
     variables: &[Binding<'a>],

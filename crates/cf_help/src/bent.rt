@@ -36,6 +36,7 @@ fn root_text(root: Root) -> &'static [u8]
     }
 }
 
+#[tactic(auto, unfolding(crate::specs::Faults::call_text))]
 fn call_text(alloc: Global, name: &Text) -> Result<Text, NoMemory>
     ensures { IfOk result (λ t. t ≡ call_text_of name.now) }
 {
@@ -142,6 +143,7 @@ fn fault_words(
     }
 }
 
+#[tactic(auto, unfolding(crate::specs::Faults::bend_words))]
 fn bend_words(
     alloc: Global,
     place: Place,
@@ -158,6 +160,7 @@ fn bend_words(
     }
 }
 
+#[tactic(auto, unfolding(crate::specs::Faults::bend_words))]
 fn answer_words(
     alloc: Global,
     place: Place,

@@ -10,9 +10,9 @@ ghost use Rattle.cf_help.specs.AskedView.{found_seen};
 ghost use Rattle.cf_help.specs.Faults.{none_is_not as none_is_not_of, not_single_one, not_single as not_single_of, not_sides as not_sides_of, asked_found as asked_found_of, type_text as type_text_of, clash_there, not_links as not_links_of, not_params as not_params_of, not_arms as not_arms_of, not_given as not_given_of, not_aim as not_aim_of, not_one as not_one_of, not_types as not_types_of, not_numbers as not_numbers_of, params_of as params_of_def, where_at as where_at_of, clash as clash_of, mismatch_words as mismatch_words_of, mismatch_at as mismatch_at_of, item_clash as item_clash_of};
 ghost use Rattle.cf_help.specs.Rows.{or_else as or_else_of};
 ghost use Rattle.cf_help.specs.ScopeView.{around_of, bindings_seen, def_seen};
-ghost use Rattle.cf_help.specs.Spots.{matched_value, bases_in as bases_in_of, bases_of_arm as bases_of_arm_in, function_of as function_of_name};
+ghost use Rattle.cf_help.specs.Spots.{matched_value, bases_in as bases_in_of, arm_bases_in as arm_bases_in_of, bases_of_arm as bases_of_arm_in, function_of as function_of_name};
 
-use crate::bases::{bases_in, bases_of_arm, function_of};
+use crate::bases::{arm_bases_in, bases_in, bases_of_arm, function_of};
 use crate::lines::same_place;
 use crate::pieces::joined;
 use crate::scope::{Around, Binding, with_matched, with_outputs};
@@ -236,11 +236,9 @@ fn not_given<'a>(
 {
     match given {
         RawGiven::Always => Ok(None),
-        RawGiven::That { place: at, rel } => if same_place(place, *at) {
-            is_not(alloc, around, variables, Base::Bool, rel)
-        } else {
-            Ok(None)
-        },
+        RawGiven::That { place: at, rel } => {
+            where_is_not(alloc, same_place(place, *at), around, variables, rel)
+        }
     }
 }
 
@@ -364,20 +362,19 @@ fn not_match<'a>(
     alloc: Global,
     around: &Around,
     variables: &[Binding<'a>],
-    raw: &'a Raw,
     of: &'a Raw,
     arms: &'a [RawArm],
 ) -> Result<Option<Text>, NoMemory>
     ensures { IfOk result (λ t. t ≡ or_else_of
         (not_one_of Int (bases_in_of (around_of around.now) (bindings_seen variables.now) (raw_tree of.now)))
         (not_arms_of (around_of around.now) (bindings_seen variables.now ++ matched_value)
-        (bases_in_of (around_of around.now) (bindings_seen variables.now) (raw_tree raw.now)) (raw_arm_trees arms.now))) }
+        (arm_bases_in_of (around_of around.now) (bindings_seen variables.now ++ matched_value) (raw_arm_trees arms.now)) (raw_arm_trees arms.now))) }
 {
     match is_not(alloc, around, variables, Base::Int, of)? {
         Some(text) => Ok(Some(text)),
         None => {
-            let bases = bases_in(alloc, around, variables, raw)?;
             let inner = with_matched(alloc, variables)?;
+            let bases = arm_bases_in(alloc, around, &inner, arms)?;
             not_arms(alloc, around, &inner, &bases, arms)
         }
     }
@@ -409,7 +406,7 @@ fn clash_of_parts<'a>(
         }
         RawNode::Call { name, args } => not_call(alloc, around, variables, &name.bytes, args),
         RawNode::If { test, yes, no } => not_if(alloc, around, variables, test, yes, no),
-        RawNode::Match { of, arms } => not_match(alloc, around, variables, raw, of, arms),
+        RawNode::Match { of, arms } => not_match(alloc, around, variables, of, arms),
         RawNode::Lit(_)
         | RawNode::Truth(_)
         | RawNode::Name(_)

@@ -4,13 +4,13 @@ ghost use Rattle.std.specs.List.{concat};
 ghost use Rattle.cf_program.specs.Names.{is_among as is_among_names};
 ghost use Rattle.cf_help.specs.Lines.{same_place as same_place_of};
 ghost use Rattle.cf_help.specs.Near.{in_quotes as in_quotes_of};
-ghost use Rattle.cf_tree.specs.RawView.{raw_tree};
+ghost use Rattle.cf_tree.specs.RawView.{raw_tree, raw_trees};
 ghost use Rattle.cf_help.specs.AskedView.{found_seen, look_of};
 ghost use Rattle.cf_help.specs.ValuedView.{constant_seen};
-ghost use Rattle.cf_help.specs.Faults.{words, number_help, below_words as below_words_of, below_named as below_named_of, unknown_words as unknown_words_of, variable_candidates as variable_candidates_of, function_candidates as function_candidates_of, given_help as given_help_of, number_words as number_words_of, unknown_at as unknown_at_of, duplicate_words as duplicate_words_of, binder_words as binder_words_of, count_at as count_at_of, later_at as later_at_of, variable_words as variable_words_of, params_of as params_of_def};
+ghost use Rattle.cf_help.specs.Faults.{words, number_help, below_words as below_words_of, below_named as below_named_of, unknown_words as unknown_words_of, variable_candidates as variable_candidates_of, function_candidates as function_candidates_of, given_help as given_help_of, number_words as number_words_of, unknown_at as unknown_at_of, duplicate_words as duplicate_words_of, binder_words as binder_words_of, count_at as count_at_of, later_at as later_at_of, variable_words as variable_words_of, params_of as params_of_def, raws_length};
 ghost use Rattle.cf_help.specs.Rows.{or_else};
 ghost use Rattle.cf_help.specs.ScopeView.{around_of, bindings_seen, defs_seen, def_seen};
-ghost use Rattle.cf_help.specs.Spots.{function_of as function_of_name};
+ghost use Rattle.cf_help.specs.Spots.{bases_in as bases_in_of, function_of as function_of_name};
 ghost use Rattle.cf_help.specs.StopView.{text_seen};
 ghost use Rattle.cf_help.specs.WordsView.{words_of};
 
@@ -277,13 +277,22 @@ fn asked_count(around: &Around, name: &[u8]) -> u64
     param_count(function_of(around.functions, name))
 }
 
-fn call_count(asked: &Asked, name: &[u8], given: u64) -> Result<FaultWords, NoMemory>
+// How many arguments there are.
+#[tactic(auto, using(crate::proofs::SeenSteps::raws_counted))]
+fn arg_count(args: &[Raw]) -> u64
+    ensures { result ≡ raws_length (raw_trees args.now) }
+{
+    args.len() as u64
+}
+
+fn call_count(asked: &Asked, name: &[u8], args: &[Raw]) -> Result<FaultWords, NoMemory>
     ensures { IfOk result (λ w. words_of w ≡ words (codes "wrong count: " ∷ in_quotes_of name.now ∷ codes " takes "
-        ∷ decimal (length (params_of_def (function_of_name (around_of asked.now.around).functions name.now))) ∷ codes ", given " ∷ decimal given ∷ []) None) }
+        ∷ decimal (length (params_of_def (function_of_name (around_of asked.now.around).functions name.now))) ∷ codes ", given "
+        ∷ decimal (raws_length (raw_trees args.now)) ∷ []) None) }
 {
     let quoted = in_quotes(asked.alloc, name)?;
     let takes = number_text(asked.alloc, asked_count(&asked.around, name))?;
-    let given = number_text(asked.alloc, given)?;
+    let given = number_text(asked.alloc, arg_count(args))?;
     let what = joined(
         asked.alloc,
         &[
@@ -315,8 +324,21 @@ fn names_count(alloc: Global, names: u64, values: u64) -> Result<FaultWords, NoM
     Ok(FaultWords { what, help: None })
 }
 
+// Names for the parts of a value over these variables, which has another number of them.
+fn let_count<'a>(
+    asked: &Asked<'a>,
+    variables: &[Binding<'a>],
+    names: &[Text],
+    value: &'a Raw,
+) -> Result<FaultWords, NoMemory>
+    ensures { IfOk result (λ w. words_of w ≡ words (codes "wrong count: names " ∷ decimal (length names.now) ∷ codes ", values "
+        ∷ decimal (length (bases_in_of (around_of asked.now.around) (bindings_seen variables.now) (raw_tree value.now))) ∷ []) None) }
+{
+    let bases = bases_in(asked.alloc, &asked.around, variables, value)?;
+    names_count(asked.alloc, names.len() as u64, bases.len() as u64)
+}
+
 // What is told of a wrong number of arguments or of names at a place.
-#[tactic(auto, using(crate::proofs::SeenSteps::raws_counted))]
 fn count_at<'a>(
     asked: &Asked<'a>,
     place: Place,
@@ -327,14 +349,13 @@ fn count_at<'a>(
 {
     match &raw.node {
         RawNode::Call { name, args } => if is_there(place, raw) {
-            let words = call_count(asked, &name.bytes, args.len() as u64)?;
+            let words = call_count(asked, &name.bytes, args)?;
             Ok(Some(words))
         } else {
             Ok(None)
         },
         RawNode::Let { names, value, .. } => if is_there(place, raw) {
-            let bases = bases_in(asked.alloc, &asked.around, variables, value)?;
-            let words = names_count(asked.alloc, names.len() as u64, bases.len() as u64)?;
+            let words = let_count(asked, variables, names, value)?;
             Ok(Some(words))
         } else {
             Ok(None)

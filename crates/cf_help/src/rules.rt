@@ -122,6 +122,7 @@ fn duplicate_item(
 }
 
 // What is seen before the expression of an item.
+#[tactic(auto, unfolding(crate::specs::Faults::seen_before))]
 fn seen_before(asked: &Asked, item: &RawItem) -> Result<Option<FaultWords>, NoMemory>
     ensures { IfOk result (λ o. found_seen o ≡ seen_before_of asked.now.fault (around_of asked.now.around) (raw_item_tree item.now)) }
 {
@@ -132,6 +133,7 @@ fn seen_before(asked: &Asked, item: &RawItem) -> Result<Option<FaultWords>, NoMe
 }
 
 // What is seen behind the expression of an item, over its parameters.
+#[tactic(auto, unfolding(crate::specs::Faults::seen_behind))]
 fn seen_behind<'a>(
     asked: &Asked<'a>,
     variables: &[Binding<'a>],
@@ -165,7 +167,7 @@ fn or_behind<'a>(
 }
 
 // What is seen first of an item.
-#[tactic(auto, using(crate::proofs::SeenSteps::two), unfolding(crate::specs::AskedView::look_of))]
+#[tactic(auto, using(crate::proofs::SeenSteps::two), unfolding(crate::specs::AskedView::look_of, crate::specs::Faults::seen_of_item))]
 fn see_item<'a>(
     asked: &Asked<'a>,
     item: &'a RawItem,

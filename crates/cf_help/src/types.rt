@@ -109,6 +109,7 @@ fn is_one(base: Base, bases: &[Base]) -> bool
 }
 
 /// What is told of a part that is no value of this one base.
+#[tactic(auto, unfolding(crate::specs::Faults::not_one))]
 pub fn not_one(alloc: Global, base: Base, bases: &[Base]) -> Result<Option<Text>, NoMemory>
     ensures { IfOk result (λ t. t ≡ not_one_of base bases.now) }
 {
@@ -211,6 +212,7 @@ fn are_numbers(bases: &[Base]) -> bool
 }
 
 /// What is told of an objective that is no number and no tuple of numbers.
+#[tactic(auto, unfolding(crate::specs::Faults::not_numbers))]
 pub fn not_numbers(alloc: Global, bases: &[Base]) -> Result<Option<Text>, NoMemory>
     ensures { IfOk result (λ t. t ≡ not_numbers_of bases.now) }
 {
