@@ -121,9 +121,11 @@ inside_body c earlier h = ap (called c.inputs) h
 
 -- a call is the body of its function, as the program walks it
 pub call_is : (c body : Inside) (x : List ℕ) (hs : List Held) (d : RawDefTree) (earlier : List RawDefTree) (vs : List Holder) →
-    last_named (backwards (take c.count c.callees.now)) x ≡ Some (d, earlier) → body.inputs ≡ c.inputs → backwards (take body.count body.callees.now) ≡ earlier →
+    last_named (backwards (take c.count c.callees.now)) x ≡ Some (d, earlier) → body.inputs ≡ c.inputs →
+    backwards (take body.count body.callees.now) ≡ earlier →
     vs ≡ holders (names_of d.params) hs → calls_in c x hs ≡ found body.inputs (calls_in body) vs d.body
 call_is c body x hs d earlier vs named inputs before params =
     call_of c x hs d earlier named
-    ∙ ap₂ (λ b calls. found b calls (holders (names_of d.params) hs) d.body) (sym inputs) (sym (inside_body body earlier before ∙ ap (λ b. called b earlier) inputs))
+    ∙ ap₂ (λ b calls. found b calls (holders (names_of d.params) hs) d.body) (sym inputs)
+    (sym (inside_body body earlier before ∙ ap (λ b. called b earlier) inputs))
     ∙ ap (λ us. found body.inputs (calls_in body) us d.body) (sym params)

@@ -7,7 +7,7 @@ use Rattle.cf_program.specs.declared.fault.TypeFault.TheVariants.{UnknownName, D
 use Rattle.cf_program.specs.declared.linearity.Linearity.TheVariants.{Plain, Late}
 use Rattle.cf_program.proofs.RuleExamples.{on}
 use Rattle.cf_program.proofs.EditionExamples as rules
-use Rattle.cf_help.specs.Faults.{words, rule_words, not_one, not_numbers, call_text, bend_words, seen_before, seen_behind, seen_of_item}
+use Rattle.cf_help.specs.Faults.{words, rule_words, not_one, not_numbers, call_text, bend_in, bend_words, seen_before, seen_behind, seen_of_item}
 
 word_not_told : rule_words Plain rules.word_not (UnknownName (on 2 47)) ≡ words (codes "unknown name: 'not'" ∷ []) (Some (codes "not is !"))
 unfolding seen_of_item seen_before seen_behind
@@ -267,119 +267,119 @@ unfolding seen_of_item seen_before seen_behind
 no_main_told = refl
 
 product_of_outputs_told : rule_words Plain rules.product_of_outputs (NotLinear (on 2 64)) ≡ words (codes "not linear: a product of two unknowns" ∷ []) None
-unfolding seen_of_item seen_before seen_behind bend_words call_text
+unfolding seen_of_item seen_before seen_behind bend_in bend_words call_text
 product_of_outputs_told = refl
 
 square_in_a_relation_told :
     rule_words Plain rules.square_in_a_relation (NotLinear (on 2 49)) ≡ words (codes "not linear: a product of two unknowns" ∷ []) None
-unfolding seen_of_item seen_before seen_behind bend_words call_text
+unfolding seen_of_item seen_before seen_behind bend_in bend_words call_text
 square_in_a_relation_told = refl
 
 product_with_an_input_told :
     rule_words Plain rules.product_with_an_input (NotLinear (on 2 57)) ≡ words (codes "not linear: a product with inputs" ∷ []) (Some (codes
     "comfusy run takes a product with inputs"))
-unfolding seen_of_item seen_before seen_behind bend_words call_text
+unfolding seen_of_item seen_before seen_behind bend_in bend_words call_text
 product_with_an_input_told = refl
 
 product_of_inputs_told :
     rule_words Plain rules.product_of_inputs (NotLinear (on 2 62)) ≡ words (codes "not linear: a product with inputs" ∷ []) (Some (codes
     "comfusy run takes a product with inputs"))
-unfolding seen_of_item seen_before seen_behind bend_words call_text
+unfolding seen_of_item seen_before seen_behind bend_in bend_words call_text
 product_of_inputs_told = refl
 
 product_of_two_unknowns_for_run_told :
     rule_words Late rules.product_of_two_unknowns_for_run (NotLinear (on 2 71)) ≡ words (codes "not linear: a product of two unknowns" ∷ []) None
-unfolding seen_of_item seen_before seen_behind bend_words call_text
+unfolding seen_of_item seen_before seen_behind bend_in bend_words call_text
 product_of_two_unknowns_for_run_told = refl
 
 card_times_an_input_told :
     rule_words Plain rules.card_times_an_input (NotLinear (on 2 57)) ≡ words (codes "not linear: a product with inputs" ∷ []) (Some (codes
     "comfusy run takes a product with inputs"))
-unfolding seen_of_item seen_before seen_behind bend_words call_text
+unfolding seen_of_item seen_before seen_behind bend_in bend_words call_text
 card_times_an_input_told = refl
 
 product_of_two_unknowns_by_let_told :
     rule_words Plain rules.product_of_two_unknowns_by_let (NotLinear (on 2 66)) ≡ words (codes "not linear: a product of two unknowns" ∷ []) None
-unfolding seen_of_item seen_before seen_behind bend_words call_text
+unfolding seen_of_item seen_before seen_behind bend_in bend_words call_text
 product_of_two_unknowns_by_let_told = refl
 
 product_of_two_unknowns_in_a_call_told :
     rule_words Plain rules.product_of_two_unknowns_in_a_call (NotLinear (on 3 47)) ≡ words (codes
     "not linear: a call of 'square', which holds a product of two unknowns" ∷ []) None
-unfolding seen_of_item seen_before seen_behind bend_words call_text
+unfolding seen_of_item seen_before seen_behind bend_in bend_words call_text
 product_of_two_unknowns_in_a_call_told = refl
 
 product_in_a_call_of_a_call_told :
     rule_words Plain rules.product_in_a_call_of_a_call (NotLinear (on 4 47)) ≡ words (codes
     "not linear: a call of 'square', which holds a call of 'times', which holds a product of two unknowns" ∷ []) None
-unfolding seen_of_item seen_before seen_behind bend_words call_text
+unfolding seen_of_item seen_before seen_behind bend_in bend_words call_text
 product_in_a_call_of_a_call_told = refl
 
 product_with_inputs_in_a_call_told :
     rule_words Plain rules.product_with_inputs_in_a_call (NotLinear (on 3 55)) ≡ words (codes
     "not linear: a call of 'times', which holds a product with inputs" ∷ []) None
-unfolding seen_of_item seen_before seen_behind bend_words call_text
+unfolding seen_of_item seen_before seen_behind bend_in bend_words call_text
 product_with_inputs_in_a_call_told = refl
 
 call_that_holds_a_choose_told :
     rule_words Plain rules.call_that_holds_a_choose (NotLinear (on 3 52)) ≡ words (codes "not linear: a call of 'half', which holds a choose" ∷ []) (Some
     (codes "bind it by let before the choose"))
-unfolding seen_of_item seen_before seen_behind bend_words call_text
+unfolding seen_of_item seen_before seen_behind bend_in bend_words call_text
 call_that_holds_a_choose_told = refl
 
 call_of_a_call_that_holds_a_choose_told :
     rule_words Plain rules.call_of_a_call_that_holds_a_choose (NotLinear (on 4 52)) ≡ words (codes
     "not linear: a call of 'f', which holds a call of 'half', which holds a choose" ∷ []) (Some (codes "bind it by let before the choose"))
-unfolding seen_of_item seen_before seen_behind bend_words call_text
+unfolding seen_of_item seen_before seen_behind bend_in bend_words call_text
 call_of_a_call_that_holds_a_choose_told = refl
 
 call_that_holds_a_match_told :
     rule_words Plain rules.call_that_holds_a_match (NotLinear (on 3 52)) ≡ words (codes "not linear: a call of 'odd', which holds a match" ∷ []) (Some (codes
     "bind it by let before the choose"))
-unfolding seen_of_item seen_before seen_behind bend_words call_text
+unfolding seen_of_item seen_before seen_behind bend_in bend_words call_text
 call_that_holds_a_match_told = refl
 
 choose_in_a_relation_told :
     rule_words Plain rules.choose_in_a_relation (NotLinear (on 2 53)) ≡ words (codes "not linear: a choose" ∷ []) (Some (codes
     "bind it by let before the choose"))
-unfolding seen_of_item seen_before seen_behind bend_words call_text
+unfolding seen_of_item seen_before seen_behind bend_in bend_words call_text
 choose_in_a_relation_told = refl
 
 match_in_a_relation_told :
     rule_words Plain rules.match_in_a_relation (NotLinear (on 2 53)) ≡ words (codes "not linear: a match" ∷ []) (Some (codes
     "bind it by let before the choose"))
-unfolding seen_of_item seen_before seen_behind bend_words call_text
+unfolding seen_of_item seen_before seen_behind bend_in bend_words call_text
 match_in_a_relation_told = refl
 
 set_literal_in_a_relation_told :
     rule_words Plain rules.set_literal_in_a_relation (NotLinear (on 2 61)) ≡ words (codes "not linear: a set literal" ∷ []) (Some (codes
     "only {} may stand in a relation"))
-unfolding seen_of_item seen_before seen_behind bend_words call_text
+unfolding seen_of_item seen_before seen_behind bend_in bend_words call_text
 set_literal_in_a_relation_told = refl
 
 set_literal_in_a_call_told :
     rule_words Plain rules.set_literal_in_a_call (NotLinear (on 3 56)) ≡ words (codes "not linear: a call of 'one', which holds a set literal" ∷ []) None
-unfolding seen_of_item seen_before seen_behind bend_words call_text
+unfolding seen_of_item seen_before seen_behind bend_in bend_words call_text
 set_literal_in_a_call_told = refl
 
 product_of_two_unknowns_in_given_told :
     rule_words Plain rules.product_of_two_unknowns_in_given (NotLinear (on 2 57)) ≡ words (codes "not linear: a product with inputs" ∷ []) None
-unfolding seen_of_item seen_before seen_behind bend_words call_text
+unfolding seen_of_item seen_before seen_behind bend_in bend_words call_text
 product_of_two_unknowns_in_given_told = refl
 
 choose_in_given_told :
     rule_words Plain rules.choose_in_given (NotLinear (on 2 53)) ≡ words (codes "not linear: a choose" ∷ []) (Some (codes
     "bind it by let before the choose"))
-unfolding seen_of_item seen_before seen_behind bend_words call_text
+unfolding seen_of_item seen_before seen_behind bend_in bend_words call_text
 choose_in_given_told = refl
 
 product_in_minimise_told : rule_words Plain rules.product_in_minimise (NotLinear (on 2 65)) ≡ words (codes "not linear: a product of two unknowns" ∷ []) None
-unfolding seen_of_item seen_before seen_behind bend_words call_text
+unfolding seen_of_item seen_before seen_behind bend_in bend_words call_text
 product_in_minimise_told = refl
 
 test_of_if_as_a_factor_told :
     rule_words Plain rules.test_of_if_as_a_factor (NotLinear (on 2 72)) ≡ words (codes "not linear: a product of two unknowns" ∷ []) None
-unfolding seen_of_item seen_before seen_behind bend_words call_text
+unfolding seen_of_item seen_before seen_behind bend_in bend_words call_text
 test_of_if_as_a_factor_told = refl
 
 linear_before_an_unknown_name_told :
@@ -398,7 +398,7 @@ minimise_a_sum_with_a_truth_value_told = refl
 
 product_with_inputs_in_given_for_run_told :
     rule_words Late rules.product_with_inputs_in_given_for_run (NotLinear (on 2 57)) ≡ words (codes "not linear: a product with inputs" ∷ []) None
-unfolding seen_of_item seen_before seen_behind bend_words call_text
+unfolding seen_of_item seen_before seen_behind bend_in bend_words call_text
 product_with_inputs_in_given_for_run_told = refl
 
 header_3_with_zeros_and_a_comment_before_told :
@@ -407,13 +407,13 @@ unfolding seen_of_item seen_before seen_behind
 header_3_with_zeros_and_a_comment_before_told = refl
 
 a_given_is_never_late_told : rule_words Late rules.a_given_is_never_late (NotLinear (on 2 57)) ≡ words (codes "not linear: a product with inputs" ∷ []) None
-unfolding seen_of_item seen_before seen_behind bend_words call_text
+unfolding seen_of_item seen_before seen_behind bend_in bend_words call_text
 a_given_is_never_late_told = refl
 
 an_aim_is_linear_too_told :
     rule_words Plain rules.an_aim_is_linear_too (NotLinear (on 2 73)) ≡ words (codes "not linear: a product with inputs" ∷ []) (Some (codes
     "comfusy run takes a product with inputs"))
-unfolding seen_of_item seen_before seen_behind bend_words call_text
+unfolding seen_of_item seen_before seen_behind bend_in bend_words call_text
 an_aim_is_linear_too_told = refl
 
 the_divisor_before_the_type_told : rule_words Plain rules.the_divisor_before_the_type (UnknownName (on 2 32)) ≡ words (codes "unknown name: 'k'" ∷ []) None
@@ -456,7 +456,7 @@ given_before_the_relation_told = refl
 
 the_bend_of_given_before_the_relation_told :
     rule_words Plain rules.the_bend_of_given_before_the_relation (NotLinear (on 2 49)) ≡ words (codes "not linear: a product with inputs" ∷ []) None
-unfolding seen_of_item seen_before seen_behind bend_words call_text
+unfolding seen_of_item seen_before seen_behind bend_in bend_words call_text
 the_bend_of_given_before_the_relation_told = refl
 
 the_relation_before_the_aim_told :
@@ -466,7 +466,7 @@ the_relation_before_the_aim_told = refl
 
 the_bend_of_the_relation_before_the_aim_told :
     rule_words Plain rules.the_bend_of_the_relation_before_the_aim (NotLinear (on 2 49)) ≡ words (codes "not linear: a product of two unknowns" ∷ []) None
-unfolding seen_of_item seen_before seen_behind bend_words call_text
+unfolding seen_of_item seen_before seen_behind bend_in bend_words call_text
 the_bend_of_the_relation_before_the_aim_told = refl
 
 a_constant_value_is_typed_before_it_is_folded_told :
@@ -521,35 +521,35 @@ a_product_past_the_limit_told = refl
 
 the_other_part_of_a_tuple_as_a_factor_told :
     rule_words Plain rules.the_other_part_of_a_tuple_as_a_factor (NotLinear (on 2 72)) ≡ words (codes "not linear: a product of two unknowns" ∷ []) None
-unfolding seen_of_item seen_before seen_behind bend_words call_text
+unfolding seen_of_item seen_before seen_behind bend_in bend_words call_text
 the_other_part_of_a_tuple_as_a_factor_told = refl
 
 a_quotient_is_no_factor_told :
     rule_words Plain rules.a_quotient_is_no_factor (NotLinear (on 2 57)) ≡ words (codes "not linear: a product of two unknowns" ∷ []) None
-unfolding seen_of_item seen_before seen_behind bend_words call_text
+unfolding seen_of_item seen_before seen_behind bend_in bend_words call_text
 a_quotient_is_no_factor_told = refl
 
 a_quotient_times_an_input_told :
     rule_words Plain rules.a_quotient_times_an_input (NotLinear (on 2 57)) ≡ words (codes "not linear: a product with inputs" ∷ []) (Some (codes
     "comfusy run takes a product with inputs"))
-unfolding seen_of_item seen_before seen_behind bend_words call_text
+unfolding seen_of_item seen_before seen_behind bend_in bend_words call_text
 a_quotient_times_an_input_told = refl
 
 an_inner_choose_is_checked_first_told :
     rule_words Plain rules.an_inner_choose_is_checked_first (NotLinear (on 2 77)) ≡ words (codes "not linear: a product of two unknowns" ∷ []) None
-unfolding seen_of_item seen_before seen_behind bend_words call_text
+unfolding seen_of_item seen_before seen_behind bend_in bend_words call_text
 an_inner_choose_is_checked_first_told = refl
 
 a_call_of_a_call_with_inputs_told :
     rule_words Plain rules.a_call_of_a_call_with_inputs (NotLinear (on 4 55)) ≡ words (codes
     "not linear: a call of 'f', which holds a call of 'times', which holds a product with inputs" ∷ []) None
-unfolding seen_of_item seen_before seen_behind bend_words call_text
+unfolding seen_of_item seen_before seen_behind bend_in bend_words call_text
 a_call_of_a_call_with_inputs_told = refl
 
 min_of_known_is_known_told :
     rule_words Plain rules.min_of_known_is_known (NotLinear (on 2 57)) ≡ words (codes "not linear: a product with inputs" ∷ []) (Some (codes
     "comfusy run takes a product with inputs"))
-unfolding seen_of_item seen_before seen_behind bend_words call_text
+unfolding seen_of_item seen_before seen_behind bend_in bend_words call_text
 min_of_known_is_known_told = refl
 
 the_part_of_div_before_the_divisor_told :
@@ -558,23 +558,23 @@ unfolding seen_of_item seen_before seen_behind
 the_part_of_div_before_the_divisor_told = refl
 
 card_is_unknown_told : rule_words Plain rules.card_is_unknown (NotLinear (on 2 63)) ≡ words (codes "not linear: a product of two unknowns" ∷ []) None
-unfolding seen_of_item seen_before seen_behind bend_words call_text
+unfolding seen_of_item seen_before seen_behind bend_in bend_words call_text
 card_is_unknown_told = refl
 
 mod_is_unknown_told : rule_words Plain rules.mod_is_unknown (NotLinear (on 2 57)) ≡ words (codes "not linear: a product of two unknowns" ∷ []) None
-unfolding seen_of_item seen_before seen_behind bend_words call_text
+unfolding seen_of_item seen_before seen_behind bend_in bend_words call_text
 mod_is_unknown_told = refl
 
 max_of_known_is_known_told :
     rule_words Plain rules.max_of_known_is_known (NotLinear (on 2 57)) ≡ words (codes "not linear: a product with inputs" ∷ []) (Some (codes
     "comfusy run takes a product with inputs"))
-unfolding seen_of_item seen_before seen_behind bend_words call_text
+unfolding seen_of_item seen_before seen_behind bend_in bend_words call_text
 max_of_known_is_known_told = refl
 
 an_input_on_the_right_told :
     rule_words Plain rules.an_input_on_the_right (NotLinear (on 2 49)) ≡ words (codes "not linear: a product with inputs" ∷ []) (Some (codes
     "comfusy run takes a product with inputs"))
-unfolding seen_of_item seen_before seen_behind bend_words call_text
+unfolding seen_of_item seen_before seen_behind bend_in bend_words call_text
 an_input_on_the_right_told = refl
 
 a_part_of_a_set_is_valued_first_told :
@@ -775,19 +775,19 @@ let_with_fewer_told = refl
 a_set_literal_in_given_told :
     rule_words Plain rules.a_set_literal_in_given (NotLinear (on 2 47)) ≡ words (codes "not linear: a set literal" ∷ []) (Some (codes
     "only {} may stand in a relation"))
-unfolding seen_of_item seen_before seen_behind bend_words call_text
+unfolding seen_of_item seen_before seen_behind bend_in bend_words call_text
 a_set_literal_in_given_told = refl
 
 a_match_in_an_objective_told :
     rule_words Plain rules.a_match_in_an_objective (NotLinear (on 2 63)) ≡ words (codes "not linear: a match" ∷ []) (Some (codes
     "bind it by let before the choose"))
-unfolding seen_of_item seen_before seen_behind bend_words call_text
+unfolding seen_of_item seen_before seen_behind bend_in bend_words call_text
 a_match_in_an_objective_told = refl
 
 inputs_in_a_call_of_given_told :
     rule_words Plain rules.inputs_in_a_call_of_given (NotLinear (on 3 55)) ≡ words (codes "not linear: a call of 'times', which holds a product with inputs"
     ∷ []) None
-unfolding seen_of_item seen_before seen_behind bend_words call_text
+unfolding seen_of_item seen_before seen_behind bend_in bend_words call_text
 inputs_in_a_call_of_given_told = refl
 
 a_candidate_of_one_byte_told : rule_words Plain rules.a_candidate_of_one_byte (UnknownName (on 2 25)) ≡ words (codes "unknown name: 'ab'" ∷ []) None

@@ -357,19 +357,23 @@ unfoldable pub bend_words : Place → Bool → Found → Option Words
 bend_words p is_given (linear hs) = None
 bend_words p is_given (bends q c) = words_at p q (words (codes "not linear: " ∷ cause_text c ∷ []) (cause_help is_given c))
 
+-- of the first form in an expression that is not linear over these variables, with products with inputs or without
+unfoldable pub bend_in : Place → Bool → Bool → Around → List Holder → RawTree → Option Words
+bend_in p is_given inputs r hs a = bend_words p is_given (found_in inputs (reverse r.earlier) hs a)
+
 abbrev pub given_bend : Place → Around → List Binding → GivenTree → Option Words
 given_bend p r vs no_given = None
-given_bend p r vs (given_that q a) = bend_words p true (found_in false (reverse r.earlier) (known vs) a)
+given_bend p r vs (given_that q a) = bend_in p true false r (known vs) a
 
 abbrev pub aim_bend : Linearity → Place → Around → List Holder → AimTree → Option Words
 aim_bend how p r hs no_aim = None
-aim_bend how p r hs (aim_at q sense a) = bend_words p false (found_in (takes_inputs how) (reverse r.earlier) hs a)
+aim_bend how p r hs (aim_at q sense a) = bend_in p false (takes_inputs how) r hs a
 
 -- the first form that is not linear, where it stands at p
 abbrev pub bend_at : Linearity → Place → Around → List Binding → RawTree → Option Words
 bend_at how p r vs (raw_choose q outputs hidden given rel aim) =
     or_else (given_bend p r vs given) (
-    or_else (bend_words p false (found_in (takes_inputs how) (reverse r.earlier) (in_relation vs outputs hidden) rel)) (
+    or_else (bend_in p false (takes_inputs how) r (in_relation vs outputs hidden) rel) (
     aim_bend how p r (in_relation vs outputs hidden) aim))
 bend_at how p r vs other = None
 

@@ -100,10 +100,8 @@ pub fn bases_in<'a>(
         | RawNode::Div { .. }
         | RawNode::Mod { .. }
         | RawNode::Card(_) => one(alloc, Base::Int),
-        RawNode::Truth(_)
-        | RawNode::Not(_)
-        | RawNode::Chain { .. }
-        | RawNode::Divides { .. } => one(alloc, Base::Bool),
+        RawNode::Truth(_) | RawNode::Not(_) | RawNode::Chain { .. } | RawNode::Divides { .. } =>
+            one(alloc, Base::Bool),
         RawNode::SetOf(_) => one(alloc, Base::Set),
         RawNode::Name(name) => one(alloc, base_of_name(variables, &name.bytes)),
         RawNode::Binary { op, .. } => one(alloc, result_of(*op)),

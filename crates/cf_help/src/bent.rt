@@ -1,12 +1,12 @@
 //! What is told of a form that is not linear.
-ghost use Rattle.std.specs.Prelude.{◌≡◌, ◌++◌, ◌∷◌, [], flat_map, map, reverse, true, false, codes, Some, None, IfOk, OnOk, if◌then◌else◌};
+ghost use Rattle.std.specs.Prelude.{◌≡◌, ◌++◌, ◌∷◌, [], flat_map, map, true, false, codes, Some, None, IfOk, OnOk, if◌then◌else◌};
 ghost use Rattle.std.specs.List.{concat};
 ghost use Rattle.cf_tree.specs.RawView.{raw_tree, given_tree, aim_tree};
-ghost use Rattle.cf_program.specs.Linear.{Found, found_in as found_in_of};
+ghost use Rattle.cf_program.specs.Linear.{Found};
 ghost use Rattle.cf_program.specs.Walk.{takes_inputs as takes_inputs_of};
 ghost use Rattle.cf_help.specs.AskedView.{found_seen};
 ghost use Rattle.cf_help.specs.BendView.{FoundAnswer, Tells, bend_seen, root_seen, within_calls};
-ghost use Rattle.cf_help.specs.Faults.{words, call_text as call_text_of, cause_text as cause_text_of, cause_help as cause_help_of, call_help, bend_words as bend_words_of, given_bend as given_bend_of, aim_bend as aim_bend_of, bend_at as bend_at_of};
+ghost use Rattle.cf_help.specs.Faults.{words, call_text as call_text_of, cause_text as cause_text_of, cause_help as cause_help_of, call_help, bend_in, bend_words as bend_words_of, given_bend as given_bend_of, aim_bend as aim_bend_of, bend_at as bend_at_of};
 ghost use Rattle.cf_help.specs.HeldView.{holder_seen};
 ghost use Rattle.cf_help.specs.ScopeView.{around_of, bindings_seen};
 ghost use Rattle.cf_help.specs.Rows.{or_else};
@@ -15,8 +15,8 @@ ghost use Rattle.cf_help.specs.WordsView.{words_of};
 
 use crate::bend::{Bend, BendFault, Root};
 use crate::held::{Held, Holder, all_known, in_choose};
-use crate::lines::same_place;
 use crate::linear::found_in;
+use crate::lines::same_place;
 use crate::pieces::{help_text, in_quotes, joined};
 use crate::scope::{Around, Binding};
 use crate::words::FaultWords;
@@ -175,7 +175,6 @@ fn answer_words(
     }
 }
 
-#[tactic(auto, unfolding(crate::specs::ScopeView::around_of), using(crate::proofs::CauseLaws::backwards_seen))]
 fn found_words<'a>(
     alloc: Global,
     place: Place,
@@ -185,8 +184,7 @@ fn found_words<'a>(
     holders: &[Holder<'a>],
     raw: &'a Raw,
 ) -> Result<Option<FaultWords>, NoMemory>
-    ensures { IfOk result (λ o. found_seen o ≡ bend_words_of place is_given
-        (found_in_of inputs (reverse (around_of around.now).earlier) (map holder_seen holders.now) (raw_tree raw.now))) }
+    ensures { IfOk result (λ o. found_seen o ≡ bend_in place is_given inputs (around_of around.now) (map holder_seen holders.now) (raw_tree raw.now)) }
 {
     let answer = found_in(alloc, around.earlier, inputs, holders, raw);
     answer_words(alloc, place, is_given, answer)
@@ -253,8 +251,8 @@ fn chosen_bend<'a>(
     rel: &'a Raw,
     aim: &'a RawAim,
 ) -> Result<Option<FaultWords>, NoMemory>
-    ensures { IfOk result (λ o. found_seen o ≡ or_else (bend_words_of place false
-        (found_in_of (takes_inputs_of how) (reverse (around_of around.now).earlier) (map holder_seen holders.now) (raw_tree rel.now)))
+    ensures { IfOk result (λ o. found_seen o ≡ or_else
+        (bend_in place false (takes_inputs_of how) (around_of around.now) (map holder_seen holders.now) (raw_tree rel.now))
         (aim_bend_of how place (around_of around.now) (map holder_seen holders.now) (aim_tree aim.now))) }
 {
     match found_words(alloc, place, false, around, takes_inputs(how), holders, rel)? {

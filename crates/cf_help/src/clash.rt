@@ -18,7 +18,10 @@ use crate::pieces::joined;
 use crate::scope::{Around, Binding, with_matched, with_outputs};
 use crate::types::{asked_found, not_numbers, not_one, not_sides, not_types, type_text};
 use crate::words::FaultWords;
-use cf_tree::{Base, BinOp, NoMemory, Param, Place, Raw, RawAim, RawArm, RawDef, RawGiven, RawItem, RawNode, Text};
+use cf_tree::{
+    Base, BinOp, NoMemory, Param, Place, Raw, RawAim, RawArm, RawDef, RawGiven, RawItem, RawNode,
+    Text,
+};
 use std::alloc::Global;
 
 // An expression over these variables that is no value of this one base.
@@ -186,10 +189,11 @@ fn not_args_of<'a>(
     def: Option<&RawDef>,
     raws: &'a [Raw],
 ) -> Result<Option<Text>, NoMemory>
-    ensures { IfOk result (λ t. t ≡ not_params_of (around_of around.now) (bindings_seen variables.now) (params_of_def (def_seen def.entry)) (raw_trees raws.now)) }
+    ensures { IfOk result (λ t. t ≡ not_params_of (around_of around.now) (bindings_seen variables.now) (params_of_def (def_seen def.entry))
+        (raw_trees raws.now)) }
 {
     match def {
-        None => Ok(None),
+        None => not_args(alloc, around, variables, &[], raws),
         Some(def) => not_args(alloc, around, variables, &def.params, raws),
     }
 }
@@ -201,7 +205,8 @@ fn arm_is_not<'a>(
     bases: &[Base],
     arm: &'a RawArm,
 ) -> Result<Option<Text>, NoMemory>
-    ensures { IfOk result (λ t. t ≡ not_types_of (codes "arms") bases.now (bases_of_arm_in (around_of around.now) (bindings_seen variables.now) (raw_arm_tree arm.now))) }
+    ensures { IfOk result (λ t. t ≡ not_types_of (codes "arms") bases.now
+        (bases_of_arm_in (around_of around.now) (bindings_seen variables.now) (raw_arm_tree arm.now))) }
 {
     let found = bases_of_arm(alloc, around, variables, arm)?;
     not_types(alloc, b"arms", bases, &found)
@@ -428,7 +433,13 @@ fn not_call<'a>(
     ensures { IfOk result (λ t. t ≡ not_params_of (around_of around.now) (bindings_seen variables.now)
         (params_of_def (function_of_name (around_of around.now).functions name.now)) (raw_trees args.now)) }
 {
-    not_args_of(alloc, around, variables, function_of(around.functions, name), args)
+    not_args_of(
+        alloc,
+        around,
+        variables,
+        function_of(around.functions, name),
+        args,
+    )
 }
 
 // What is wrong at a place with the types of the parts of a form.

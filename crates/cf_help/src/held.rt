@@ -87,11 +87,7 @@ fn where_named(holder: &Holder, name: &[u8], held: Held) -> Held
     ensures { held_seen result ≡ if bytes_eq holder.now.name.now name.now then held_seen holder.now.held else held_seen held }
 {
     let named = holder.name;
-    if named == name {
-        holder.held
-    } else {
-        held
-    }
+    if named == name { holder.held } else { held }
 }
 
 /// What a name holds: that of the last of these variables with this name, and else a constant.
@@ -183,10 +179,7 @@ fn put_known<'a>(all: &mut Vec<Holder<'a>>, variables: &[Binding<'a>]) -> Result
 }
 
 /// These variables, which are known.
-pub fn all_known<'a>(
-    alloc: Global,
-    variables: &[Binding<'a>],
-) -> Result<Vec<Holder<'a>>, NoMemory>
+pub fn all_known<'a>(alloc: Global, variables: &[Binding<'a>]) -> Result<Vec<Holder<'a>>, NoMemory>
     ensures { IfOk result (λ vs. map holder_seen vs.items ≡ known (bindings_seen variables.now)) }
 {
     let mut all = Vec::new(alloc);

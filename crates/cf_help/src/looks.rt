@@ -85,10 +85,7 @@ fn put_def_names<'a>(all: &mut Vec<&'a [u8]>, defs: &[&'a RawDef]) -> Result<(),
 }
 
 // The functions and the operations that an unknown name may have meant.
-fn function_candidates<'a>(
-    alloc: Global,
-    earlier: &[&'a RawDef],
-) -> Result<Vec<&'a [u8]>, NoMemory>
+fn function_candidates<'a>(alloc: Global, earlier: &[&'a RawDef]) -> Result<Vec<&'a [u8]>, NoMemory>
     ensures { IfOk result (λ v. map (λ n. n.now) v.items ≡ function_candidates_of (defs_seen earlier.now)) }
 {
     let mut all = names_backwards(alloc, earlier)?;
@@ -105,10 +102,7 @@ fn function_candidates<'a>(
 
 // The constants that an unknown name may have meant, the last one first.
 #[tactic(auto, using(crate::proofs::StopLemmas::map_reverse))]
-fn constant_candidates<'a>(
-    alloc: Global,
-    constants: &[&'a [u8]],
-) -> Result<Vec<&'a [u8]>, NoMemory>
+fn constant_candidates<'a>(alloc: Global, constants: &[&'a [u8]]) -> Result<Vec<&'a [u8]>, NoMemory>
     ensures { IfOk result (λ v. map (λ n. n.now) v.items ≡ reverse (map (λ n. n.now) constants.now)) }
 {
     let mut all = Vec::from_slice(alloc, constants)?;
@@ -163,7 +157,8 @@ fn unknown_variable(
     variables: &[Binding],
     name: &[u8],
 ) -> Result<FaultWords, NoMemory>
-    ensures { IfOk result (λ w. words_of w ≡ unknown_words_of name.now (variable_candidates_of (around_of asked.now.around).constants (bindings_seen variables.now))
+    ensures { IfOk result (λ w. words_of w ≡ unknown_words_of name.now
+        (variable_candidates_of (around_of asked.now.around).constants (bindings_seen variables.now))
         (given_help_of (bindings_seen outs.now) name.now)) }
 {
     let candidates = variable_candidates(asked.alloc, asked.around.constants, variables)?;
@@ -228,11 +223,7 @@ pub fn duplicate_words(
     Ok(FaultWords { what, help })
 }
 
-fn constant_help(
-    alloc: Global,
-    quoted: &Text,
-    is_constant: bool,
-) -> Result<Option<Text>, NoMemory>
+fn constant_help(alloc: Global, quoted: &Text, is_constant: bool) -> Result<Option<Text>, NoMemory>
     ensures { IfOk result (λ h. h ≡ (if is_constant then Some (concat (quoted.now ∷ codes " is a constant" ∷ [])) else None)) }
 {
     if is_constant {
@@ -369,8 +360,14 @@ fn later_words(alloc: Global, name: &[u8]) -> Result<FaultWords, NoMemory>
         (Some (codes "a function calls only functions that stand before it"))) }
 {
     let quoted = in_quotes(alloc, name)?;
-    let what = joined(alloc, &[b"calls later function: ".as_slice(), &quoted.bytes])?;
-    let help = Text::from_str(alloc, "a function calls only functions that stand before it")?;
+    let what = joined(
+        alloc,
+        &[b"calls later function: ".as_slice(), &quoted.bytes],
+    )?;
+    let help = Text::from_str(
+        alloc,
+        "a function calls only functions that stand before it",
+    )?;
     Ok(FaultWords {
         what,
         help: Some(help),
@@ -472,13 +469,38 @@ fn seen<'a>(
 {
     match asked.fault {
         TypeFault::UnknownName(place) => unknown_at(asked, place, outs, variables, raw),
-        TypeFault::DuplicateName(place) => binder_words(asked.alloc, asked.around.constants, binder_in(place, raw)),
+        TypeFault::DuplicateName(place) => binder_words(
+            asked.alloc,
+            asked.around.constants,
+            binder_in(place, raw),
+        ),
         TypeFault::WrongCount(place) => count_at(asked, place, variables, raw),
-        TypeFault::Mismatch(place) => mismatch_at(asked.alloc, place, &asked.around, variables, raw),
-        TypeFault::NotConstant(place) => variable_words(asked.alloc, asked.around.constants, number_in(place, raw)),
-        TypeFault::ConstantBelow(place) => below_words(asked.alloc, asked.values, number_in(place, raw)),
+        TypeFault::Mismatch(place) => mismatch_at(
+            asked.alloc,
+            place,
+            &asked.around,
+            variables,
+            raw,
+        ),
+        TypeFault::NotConstant(place) => variable_words(
+            asked.alloc,
+            asked.around.constants,
+            number_in(place, raw),
+        ),
+        TypeFault::ConstantBelow(place) => below_words(
+            asked.alloc,
+            asked.values,
+            number_in(place, raw),
+        ),
         TypeFault::CallsLater(place) => later_at(asked, place, raw),
-        TypeFault::NotLinear(place) => bend_at(asked.alloc, asked.how, place, &asked.around, variables, raw),
+        TypeFault::NotLinear(place) => bend_at(
+            asked.alloc,
+            asked.how,
+            place,
+            &asked.around,
+            variables,
+            raw,
+        ),
         TypeFault::ConstantPast(_)
         | TypeFault::NoMain
         | TypeFault::Weight(_)

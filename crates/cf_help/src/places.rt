@@ -148,7 +148,9 @@ pub fn binder_in(place: Place, raw: &Raw) -> Option<&[u8]>
     match &raw.node {
         RawNode::Let { names, places, .. } => binder_at(place, places, names),
         RawNode::Choose {
-            outputs, hidden, ..
+            outputs,
+            hidden,
+            ..
         } => or_else(param_at(place, outputs), param_at(place, hidden)),
         RawNode::Match { arms, .. } => arm_binder_at(place, arms),
         _ => None,

@@ -77,9 +77,7 @@ pub fn rule_place(fault: TypeFault) -> Option<Place>
         | TypeFault::ConstantPast(place)
         | TypeFault::CallsLater(place)
         | TypeFault::NotLinear(place) => Some(place),
-        TypeFault::NoMain
-        | TypeFault::Weight(_)
-        | TypeFault::Depth(_)
-        | TypeFault::NoMemory => None,
+        TypeFault::NoMain | TypeFault::Weight(_) | TypeFault::Depth(_) | TypeFault::NoMemory =>
+            None,
     }
 }

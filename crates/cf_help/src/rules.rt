@@ -74,7 +74,12 @@ fn expression_of(item: &RawItem) -> &Raw
 }
 
 // Words, where they stand at the place.
-fn words_there(alloc: Global, there: bool, name: &[u8], is_constant: bool) -> Result<Option<FaultWords>, NoMemory>
+fn words_there(
+    alloc: Global,
+    there: bool,
+    name: &[u8],
+    is_constant: bool,
+) -> Result<Option<FaultWords>, NoMemory>
     ensures { IfOk result (λ o. found_seen o ≡ (if there then Some (duplicate_words_of name.now is_constant) else None)) }
 {
     if there {
@@ -168,10 +173,7 @@ fn or_behind<'a>(
 
 // What is seen first of an item.
 #[tactic(auto, using(crate::proofs::SeenSteps::two), unfolding(crate::specs::AskedView::look_of, crate::specs::Faults::seen_of_item))]
-fn see_item<'a>(
-    asked: &Asked<'a>,
-    item: &'a RawItem,
-) -> Result<Option<FaultWords>, NoMemory>
+fn see_item<'a>(asked: &Asked<'a>, item: &'a RawItem) -> Result<Option<FaultWords>, NoMemory>
     ensures { IfOk result (λ o. found_seen o ≡ seen_of_item asked.now.how (map constant_seen asked.now.values.now) asked.now.fault
         (around_of asked.now.around) (raw_item_tree item.now)) }
 {

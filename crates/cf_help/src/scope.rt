@@ -110,7 +110,8 @@ pub fn with_matched<'a>(
 
 // Adds a variable, where it is one.
 fn put_if<'a>(all: &mut Vec<Binding<'a>>, wanted: bool, name: &'a [u8]) -> Result<(), NoMemory>
-    ensures { OnOk result (bindings_seen all.new.items ≡ (if wanted then bindings_seen all.old.items ++ record { name = name.now; base = Int } ∷ [] else bindings_seen all.old.items)) }
+    ensures { OnOk result (bindings_seen all.new.items ≡
+        (if wanted then bindings_seen all.old.items ++ record { name = name.now; base = Int } ∷ [] else bindings_seen all.old.items)) }
 {
     if wanted {
         all.push(Binding {
@@ -143,11 +144,7 @@ fn where_named(variable: &Binding, name: &[u8], base: Base) -> Base
     ensures { result ≡ (if bytes_eq variable.now.name.now name.now then variable.now.base else base) }
 {
     let named = variable.name;
-    if named == name {
-        variable.base
-    } else {
-        base
-    }
+    if named == name { variable.base } else { base }
 }
 
 /// The base of the last of these variables with this name, and else that of a constant.

@@ -13,8 +13,8 @@ ghost use Rattle.cf_help.specs.Valued.{value_over_one, value_over_row, nearer as
 use crate::valued::{Valued, value_of as constant_value};
 use cf_program::TypeFault;
 use cf_tree::{
-    BinOp, NoMemory, Number, Place, Raw, RawAim, RawArm, RawConst, RawGiven, RawItem, RawNode, Sense, raw_over_list,
-    raw_over_number, raw_over_one, without,
+    BinOp, NoMemory, Number, Place, Raw, RawAim, RawArm, RawConst, RawGiven, RawItem, RawNode,
+    Sense, raw_over_list, raw_over_number, raw_over_one, without,
 };
 use std::alloc::Global;
 

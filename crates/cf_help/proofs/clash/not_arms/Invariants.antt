@@ -5,4 +5,5 @@ use Rattle.cf_help.specs.ScopeView.{around_of, bindings_seen}
 use Rattle.cf_help.proofs.clash.not_arms.Given as goal
 
 abbrev pub invariant-loop-arm : goal.invariant-loop-arm
-invariant-loop-arm l = not_arms (around_of l.around) (bindings_seen l.variables) l.bases (raw_arm_trees (drop l.arm-index l.arms)) ≡ not_arms (around_of l.around) (bindings_seen l.variables) l.bases (raw_arm_trees l.arms)
+invariant-loop-arm l = not_arms (around_of l.around) (bindings_seen l.variables) l.bases (raw_arm_trees (drop l.arm-index l.arms)) ≡ not_arms
+    (around_of l.around) (bindings_seen l.variables) l.bases (raw_arm_trees l.arms)
