@@ -3,7 +3,7 @@
 -- The sources are those of the examples of the rules, and stand there.
 use Rattle.std.specs.Prelude.{◌≡◌, [], ◌∷◌, codes, Some, None, refl}
 use Rattle.std.specs.Fmt.{digits}
-use Rattle.cf_program.specs.declared.fault.TypeFault.TheVariants.{UnknownName, DuplicateName, WrongCount, Mismatch, NotConstant, ConstantBelow, ConstantPast, CallsLater, NoMain, NotLinear}
+use Rattle.cf_program.specs.declared.fault.TypeFault.TheVariants.{UnknownName, DuplicateName, WrongCount, Mismatch, NotConstant, ConstantBelow, ConstantPast, CallsLater, NoMain, NotLinear, Weight, Depth, NoMemory}
 use Rattle.cf_program.specs.declared.linearity.Linearity.TheVariants.{Plain, Late}
 use Rattle.cf_program.proofs.RuleExamples.{on}
 use Rattle.cf_program.proofs.EditionExamples as rules
@@ -797,3 +797,36 @@ a_candidate_of_one_byte_told = refl
 a_name_of_one_byte_told : rule_words Plain rules.a_name_of_one_byte (UnknownName (on 2 26)) ≡ words (codes "unknown name: 'a'" ∷ []) None
 unfolding seen_of_item seen_before seen_behind
 a_name_of_one_byte_told = refl
+
+-- where nothing more is seen
+name_not_seen_told : rule_words Plain [] (UnknownName (on 1 1)) ≡ words (codes "unknown name" ∷ []) None
+name_not_seen_told = refl
+
+duplicate_not_seen_told : rule_words Plain [] (DuplicateName (on 1 1)) ≡ words (codes "duplicate name" ∷ []) None
+duplicate_not_seen_told = refl
+
+count_not_seen_told : rule_words Plain [] (WrongCount (on 1 1)) ≡ words (codes "wrong count" ∷ []) None
+count_not_seen_told = refl
+
+mismatch_not_seen_told : rule_words Plain [] (Mismatch (on 1 1)) ≡ words (codes "type mismatch" ∷ []) None
+mismatch_not_seen_told = refl
+
+constant_below_not_seen_told : rule_words Plain [] (ConstantBelow (on 1 1)) ≡ words (codes "constant below 1" ∷ []) None
+constant_below_not_seen_told = refl
+
+later_function_not_seen_told : rule_words Plain [] (CallsLater (on 1 1)) ≡ words (codes "calls later function" ∷ []) None
+later_function_not_seen_told = refl
+
+bend_not_seen_told : rule_words Plain [] (NotLinear (on 1 1)) ≡ words (codes "not linear" ∷ []) None
+bend_not_seen_told = refl
+
+weight_told : rule_words Plain [] (Weight 1572859) ≡ words (codes "Weight 1572859" ∷ []) None
+unfolding digits
+weight_told = refl
+
+depth_told : rule_words Plain [] (Depth 201) ≡ words (codes "Depth 201" ∷ []) None
+unfolding digits
+depth_told = refl
+
+no_memory_told : rule_words Plain [] NoMemory ≡ words (codes "no memory" ∷ []) None
+no_memory_told = refl

@@ -1,7 +1,7 @@
 -- The first of several.
-use Rattle.std.proofs.Common.{◌≡◌, ℕ, List, [], ◌∷◌, map, length, Option, Some, None, refl, arith}
+use Rattle.std.proofs.Common.{◌≡◌, List, [], ◌∷◌, length, Option, Some, None, refl, arith}
 use Rattle.cf_tree.specs.declared.raw.Raw.{Raw}
-use Rattle.cf_tree.specs.RawView.{raw_tree, raw_trees}
+use Rattle.cf_tree.specs.RawView.{raw_trees}
 use Rattle.cf_help.specs.Faults.{raws_length}
 use Rattle.cf_help.specs.Rows.{or_else}
 

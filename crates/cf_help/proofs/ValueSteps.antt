@@ -1,5 +1,5 @@
 -- Steps of the values of constants.
-use Rattle.std.proofs.Common.{◌≡◌, ℕ, ℤ, List, ◌∷◌, Result, Ok, Err, refl}
+use Rattle.std.proofs.Common.{◌≡◌, ℕ, ℤ, List, ◌∷◌, Result, refl}
 use Rattle.cf_tree.specs.declared.base.Sense.{Sense}
 use Rattle.cf_tree.specs.declared.base.Sense.TheVariants.{Least, Greatest}
 use Rattle.cf_program.specs.CheckAnswers.{CheckFault}

@@ -1,5 +1,5 @@
 -- What is told of a broken rule, by the program that breaks it: the words behind its place, and a help.
-use Rattle.std.specs.Prelude.{ℕ, ◌+◌, ℤ, Bool, true, false, not, ◌&&◌, ◌==◌, List, [], ◌∷◌, ◌++◌, length, map, reverse, codes, decimal, Option, Some, None, Result, Ok, Err, if◌then◌else◌}
+use Rattle.std.specs.Prelude.{ℕ, ◌+◌, ℤ, Bool, true, false, ◌&&◌, ◌==◌, List, [], ◌∷◌, ◌++◌, length, map, reverse, codes, decimal, Option, Some, None, Result, Ok, Err, if◌then◌else◌}
 use Rattle.std.specs.Fmt.{signed_decimal}
 use Rattle.std.specs.List.{concat}
 use Rattle.cf_tree.specs.declared.base.Edition.TheVariants.{Three}
@@ -12,7 +12,6 @@ use Rattle.cf_tree.specs.Bases.{same_bases}
 use Rattle.cf_tree.specs.DefView.{RawDefTree, RawItemTree, item_const, item_def}
 use Rattle.cf_tree.specs.Params.{bases_of}
 use Rattle.cf_tree.specs.RawTree.{RawTree, raw_lit, raw_truth, raw_name, raw_set_of, raw_group, raw_tuple, raw_neg, raw_not, raw_abs, raw_binary, raw_chain, raw_min, raw_max, raw_divides, raw_div, raw_mod, raw_card, raw_call, raw_if, raw_let, raw_choose, raw_match, RawTrees, no_raws, raw_more, RawArmTree, RawArmTrees, no_raw_arms, raw_arm, raw_arm_more, NumberTree, number_lit, number_name, PartTree, GivenTree, no_given, given_that, AimTree, no_aim, aim_at, place_of}
-use Rattle.cf_tree.specs.Typing.{one}
 use Rattle.cf_program.specs.declared.fault.TypeFault.{TypeFault}
 use Rattle.cf_program.specs.declared.fault.TypeFault.TheVariants as rule
 use Rattle.cf_program.specs.declared.linearity.Linearity.{Linearity}

@@ -1,4 +1,4 @@
-use Rattle.std.proofs.Common.{rules, ◌≡◌, ◌<◌, ◌∙◌, None, Some, min, length, map, take, get_or, sym, ap, ap₂, subst, arith}
+use Rattle.std.proofs.Common.{rules, ◌≡◌, ◌<◌, ◌∙◌, None, Some, min, length, map, take, get_or, ap₂, subst}
 use Rattle.std.proofs.Math.ListN.{get_or-map}
 use Rattle.cf_tree.specs.DefView.{raw_def_tree}
 use Rattle.cf_help.specs.LastNamed.{backwards, last_named}
