@@ -427,7 +427,7 @@ long_token :
     "bbbbbbbbbbbbbbbbbbbbbbbbbbbbbbbbbbbbbbbbbbbbbbbbbbbbbbbbbbbb") ∷ [])) ≡ None
 long_token = refl
 
--- def main(a: int): int = a                                                                                                                                                                                                         b
+-- def main(a: int): int = a, and b behind 201 spaces
 long_line :
     syntax_help (stopped (Word (codes "def") ∷ Word (codes "main") ∷ Sign (codes "(") ∷ Word (codes "a") ∷ Sign (codes ":") ∷ Word (codes "int") ∷ Sign
     (codes ")") ∷ Sign (codes ":") ∷ Word (codes "int") ∷ Sign (codes "=") ∷ Word (codes "a") ∷ []) (Word (codes "b") ∷ [])) ≡ None

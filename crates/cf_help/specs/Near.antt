@@ -3,21 +3,16 @@ use Rattle.std.specs.Prelude.{ℕ, nat_le, Bool, false, ◌&&◌, ◌||◌, ◌=
 use Rattle.std.specs.List.{concat}
 use Rattle.std.specs.Str.{bytes_eq}
 
--- whether y is x without one of its bytes
-abbrev pub loses_one : List ℕ → List ℕ → Bool
-loses_one [] y = false
-loses_one (a ∷ x) [] = bytes_eq x []
-loses_one (a ∷ x) (b ∷ y) = bytes_eq x (b ∷ y) || (a == b) && loses_one x y
-
--- whether y is x with another byte in the place of one
-abbrev pub replaces_one : List ℕ → List ℕ → Bool
-replaces_one [] y = false
-replaces_one (a ∷ x) [] = false
-replaces_one (a ∷ x) (b ∷ y) = if a == b then replaces_one x y else bytes_eq x y
+-- whether behind their common front one is the other but for one byte, which is inserted, deleted or replaced
+abbrev pub differs_by_one : List ℕ → List ℕ → Bool
+differs_by_one [] [] = false
+differs_by_one [] (b ∷ y) = bytes_eq [] y
+differs_by_one (a ∷ x) [] = bytes_eq x []
+differs_by_one (a ∷ x) (b ∷ y) = if a == b then differs_by_one x y else (bytes_eq x y || (bytes_eq x (b ∷ y) || bytes_eq (a ∷ x) y))
 
 -- whether x becomes y by one byte inserted, deleted or replaced, and both have two bytes or more
 abbrev pub is_near : List ℕ → List ℕ → Bool
-is_near x y = nat_le 2 (length x) && nat_le 2 (length y) && (loses_one y x || loses_one x y || replaces_one x y)
+is_near x y = nat_le 2 (length x) && (nat_le 2 (length y) && differs_by_one x y)
 
 -- the first candidate that is near
 abbrev pub first_near : List ℕ → List (List ℕ) → Option (List ℕ)

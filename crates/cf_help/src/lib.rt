@@ -4,17 +4,33 @@
 //! and its place, so all else is found here, once, when a source is refused.
 #![tactic(auto)]
 
+mod bases;
+mod bend;
+mod bent;
 mod bytes;
+mod callees;
+mod clash;
+mod held;
 mod kinds;
+mod linear;
 mod lines;
+mod looks;
 mod messages;
+mod near;
 mod numbers;
 mod pieces;
+mod places;
+mod plain;
 mod rows;
 mod rules;
+mod scope;
+mod seen;
 mod stop;
 mod syntax;
 mod telling;
+mod types;
+mod value;
+mod valued;
 mod words;
 mod written;
 

@@ -1,5 +1,6 @@
 //! Texts made of pieces.
 ghost use Rattle.std.specs.Prelude.{◌≡◌, flat_map, decimal, option_map, IfOk};
+ghost use Rattle.std.specs.Fmt.{signed_decimal};
 ghost use Rattle.cf_help.specs.Near.{in_quotes as in_quotes_of};
 
 use cf_tree::{NoMemory, Text, put_number};
@@ -42,4 +43,13 @@ pub fn help_text(alloc: Global, help: Option<&[u8]>) -> Result<Option<Text>, NoM
             bytes: Vec::from_slice(alloc, help)?,
         })),
     }
+}
+
+/// A number with its sign, in decimal.
+pub fn signed_text(alloc: Global, number: i128) -> Result<Text, NoMemory>
+    ensures { IfOk result (λ t. t ≡ signed_decimal number) }
+{
+    let mut bytes = Vec::new(alloc);
+    put_number(&mut bytes, number)?;
+    Ok(Text { bytes })
 }

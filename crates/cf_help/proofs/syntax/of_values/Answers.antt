@@ -1,4 +1,4 @@
-use Rattle.std.proofs.Common.{◌≡◌, ap₂, ◌∙◌}
+use Rattle.std.proofs.Common.{ap₂, ◌∙◌}
 use Rattle.cf_help.specs.Rows.{or_else}
 use Rattle.cf_help.specs.StopView.{kind_seen, kinds_seen}
 use Rattle.cf_help.specs.Syntax.{rows_of_values}
