@@ -2,6 +2,7 @@ mod AllowedExamples
 pub mod BaseLemmas
 mod CodeTypingExamples
 mod MeaningExamples
+mod OccursExamples
 mod OverPartsExamples
 mod RelationExamples
 pub mod OneOutcomeLemmas

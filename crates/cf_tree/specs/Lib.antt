@@ -21,6 +21,7 @@ pub mod Spelled
 pub mod Typing
 pub mod Values
 pub mod Words
+pub mod Occurs
 pub mod OneOutcome
 pub mod Params
 pub mod ChooseTree

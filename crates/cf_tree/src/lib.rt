@@ -10,6 +10,7 @@ mod forms;
 mod level;
 mod measure;
 mod memory;
+mod occurs;
 mod raw;
 mod rel;
 mod target;
@@ -22,6 +23,7 @@ pub use crate::copy::words::copy_params;
 pub use crate::expr::{Aim, Def, Expr, Given, MatchArm};
 pub use crate::level::{add_u32, to_u32};
 pub use crate::memory::{NoMemory, without};
+pub use crate::occurs::rel_holds;
 pub use crate::raw::{
     BinOp, Number, Param, Part, Program, Raw, RawAim, RawArm, RawConst, RawDef, RawGiven, RawItem,
     RawNode,

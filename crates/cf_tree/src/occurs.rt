@@ -1,12 +1,13 @@
 //! Which variables occur in relations.
 ghost use Rattle.std.specs.Prelude.{◌≡◌};
 ghost use Rattle.cf_tree.specs.RelView.{set_tree, term_tree, rel_tree};
-ghost use Rattle.cf_form.specs.Occurs.{set_holds as set_holds_of, term_holds as term_holds_of, rel_holds as rel_holds_of};
+ghost use Rattle.cf_tree.specs.Occurs.{set_holds, term_holds, rel_holds};
 
-use cf_tree::{Rel, SetTerm, Term};
+use crate::rel::{Rel, SetTerm, Term};
+use crate::term_over_one;
 
 fn set_holds(set: &SetTerm, level: u32) -> bool
-    ensures { result ≡ set_holds_of level (set_tree set.now) }
+    ensures { result ≡ set_holds level (set_tree set.now) }
 {
     match set {
         SetTerm::Empty => false,
@@ -18,13 +19,13 @@ fn set_holds(set: &SetTerm, level: u32) -> bool
 }
 
 fn term_holds(term: &Term, level: u32) -> bool
-    ensures { result ≡ term_holds_of level (term_tree term.now) }
+    ensures { result ≡ term_holds level (term_tree term.now) }
 {
     match term {
         Term::Lit(_) => false,
         Term::Var(x) => level == *x,
         Term::Card(s) => set_holds(s, level),
-        Term::Neg(a) | Term::Div(a, _) | Term::Mod(a, _) | Term::Abs(a) => term_holds(a, level),
+        term_over_one!(a) => term_holds(a, level),
         Term::Add(a, b) | Term::Sub(a, b) | Term::Mul(a, b) => {
             term_holds(a, level) || term_holds(b, level)
         }
@@ -32,8 +33,8 @@ fn term_holds(term: &Term, level: u32) -> bool
 }
 
 /// Whether the variable of that level occurs in a relation.
-pub(crate) fn rel_holds(rel: &Rel, level: u32) -> bool
-    ensures { result ≡ rel_holds_of level (rel_tree rel.now) }
+pub fn rel_holds(rel: &Rel, level: u32) -> bool
+    ensures { result ≡ rel_holds level (rel_tree rel.now) }
 {
     match rel {
         Rel::True | Rel::False => false,

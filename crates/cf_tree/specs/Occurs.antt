@@ -1,4 +1,4 @@
--- Which variables occur in a relation (these words stand in Layout of cf_linear, and move to cf_tree).
+-- Which variables occur in a relation.
 use Rattle.std.specs.Prelude.{ℕ, Bool, false, ◌||◌, ◌==◌}
 use Rattle.cf_tree.specs.RelTree.{SetTree, empty_set, set_var, union_of, inter_of, diff_of, TermTree, term_lit, term_var, term_card, term_neg, term_add, term_sub, term_mul, term_div, term_mod, term_abs, RelTree, rel_true, rel_false, rel_compare, rel_same_set, rel_other_set, rel_subset, rel_divides, rel_and, rel_or, rel_not}
 
