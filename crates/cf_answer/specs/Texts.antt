@@ -3,9 +3,9 @@ use Rattle.std.specs.Prelude.{ℕ, List, [], ◌∷◌, codes, decimal, Result, 
 use Rattle.std.specs.List.{concat}
 use Rattle.cf_tree.specs.declared.base.Place.{Place}
 use Rattle.cf_linear.specs.declared.refusal.Refusal.{Refusal}
+use Rattle.cf_linear.specs.Reasons.{refusal_text}
 use Rattle.cf_program.specs.declared.fault.TypeFault.{TypeFault}
 use Rattle.cf_program.specs.declared.fault.TypeFault.TheVariants as rule
-use Rattle.cf_late.specs.Texts.{refusal_text}
 use Rattle.cf_cert.specs.declared.verdict.Why.{Why}
 use Rattle.cf_cert.specs.declared.verdict.Why.TheVariants as why
 use Rattle.cf_answer.specs.declared.fault.Fault.{Fault}

@@ -1,8 +1,8 @@
 //! Why a choose is refused, in words.
 ghost use Rattle.std.specs.Prelude.{◌≡◌};
-ghost use Rattle.cf_late.specs.Texts.{kind_text, reason_text, refusal_text};
+ghost use Rattle.cf_linear.specs.Reasons.{kind_text, reason_text, refusal_text};
 
-use cf_linear::{LimitKind, Refusal};
+use crate::refusal::{LimitKind, Refusal};
 use itoa::Buffer;
 
 /// Words, or the name of a limit with its number: the three stand one behind the other.
