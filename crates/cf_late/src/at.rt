@@ -5,10 +5,9 @@ ghost use Rattle.cf_tree.specs.RelView.{term_tree, rel_tree};
 ghost use Rattle.cf_tree.specs.Values.{number_of, value_at};
 ghost use Rattle.cf_eval.specs.Seen.{plains};
 ghost use Rattle.cf_late.specs.At.{variable_known, term_known, rel_known};
-ghost use Rattle.cf_late.specs.OtherParts.{term_over_one, term_over_two, rel_over_two};
 
 use cf_eval::{Value, number_in};
-use cf_tree::{NoMemory, Order, Rel, Term, without};
+use cf_tree::{NoMemory, Order, Rel, Term, term_over_one, without};
 use std::alloc::Global;
 
 // The number of level x, 0 where none stands there.
@@ -40,40 +39,17 @@ fn term_at(alloc: Global, scope: usize, term: &Term, env: &[Value]) -> Result<Te
         Term::Lit(n) => Ok(Term::Lit(*n)),
         Term::Var(x) => Ok(variable_at(scope, *x, env)),
         Term::Card(_) => term.try_copy(alloc),
-        Term::Neg(a) | Term::Div(a, _) | Term::Mod(a, _) | Term::Abs(a) => {
+        term_over_one!(a) => {
             let part = boxed_term(alloc, scope, a, env)?;
-            Ok(term_over_one(term, part))
+            Ok(term.over_one(part))
         }
         Term::Add(a, b) | Term::Sub(a, b) | Term::Mul(a, b) => {
             let first = boxed_term(alloc, scope, a, env)?;
             match boxed_term(alloc, scope, b, env) {
-                Ok(second) => Ok(term_over_two(term, first, second)),
+                Ok(second) => Ok(term.over_two(first, second)),
                 Err(fault) => Err(without(first, fault)),
             }
         }
-    }
-}
-
-// The form of the term over another part.
-fn term_over_one(term: &Term, a: Box<Term>) -> Term
-    ensures { term_tree result ≡ term_over_one (term_tree term.now) (term_tree a.value) }
-{
-    match term {
-        Term::Div(_, k) => Term::Div(a, *k),
-        Term::Mod(_, k) => Term::Mod(a, *k),
-        Term::Abs(_) => Term::Abs(a),
-        _ => Term::Neg(a),
-    }
-}
-
-// The form of the term over two other parts.
-fn term_over_two(term: &Term, a: Box<Term>, b: Box<Term>) -> Term
-    ensures { term_tree result ≡ term_over_two (term_tree term.now) (term_tree a.value) (term_tree b.value) }
-{
-    match term {
-        Term::Sub(_, _) => Term::Sub(a, b),
-        Term::Mul(_, _) => Term::Mul(a, b),
-        _ => Term::Add(a, b),
     }
 }
 
@@ -106,7 +82,7 @@ pub(crate) fn rel_at(alloc: Global, scope: usize, rel: &Rel, env: &[Value]) -> R
         Rel::And(a, b) | Rel::Or(a, b) => {
             let first = boxed_rel(alloc, scope, a, env)?;
             match boxed_rel(alloc, scope, b, env) {
-                Ok(second) => Ok(rel_over_two(rel, first, second)),
+                Ok(second) => Ok(rel.over_two(first, second)),
                 Err(fault) => Err(without(first, fault)),
             }
         }
@@ -137,15 +113,5 @@ fn comparison(
     match boxed_term(alloc, scope, right, env) {
         Ok(right) => Ok(Rel::Compare { order, left, right }),
         Err(fault) => Err(without(left, fault)),
-    }
-}
-
-// The form of the relation over two other ones.
-fn rel_over_two(rel: &Rel, a: Box<Rel>, b: Box<Rel>) -> Rel
-    ensures { rel_tree result ≡ rel_over_two (rel_tree rel.now) (rel_tree a.value) (rel_tree b.value) }
-{
-    match rel {
-        Rel::Or(_, _) => Rel::Or(a, b),
-        _ => Rel::And(a, b),
     }
 }

@@ -4,6 +4,7 @@ mod CodeTypingExamples
 mod MeaningExamples
 mod OccursExamples
 mod OverPartsExamples
+mod OverTermsExamples
 mod RelationExamples
 pub mod OneOutcomeLemmas
 pub mod RisingLemmas

@@ -8,6 +8,7 @@ pub mod ExprView
 pub mod Meaning
 pub mod Numbers
 pub mod OverParts
+pub mod OverTerms
 pub mod RawTree
 pub mod RawView
 pub mod RelSize

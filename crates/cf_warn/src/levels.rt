@@ -1,12 +1,11 @@
 //! Relations over other levels.
 ghost use Rattle.std.specs.Prelude.{◌≡◌, ◌+◌, IfOk};
 ghost use Rattle.cf_tree.specs.RelView.{set_tree, term_tree, rel_tree};
-ghost use Rattle.cf_tree.specs.SameParts.{IsSetOverTwo, IsTermOverOne, IsTermOverTwo, IsRelOverSets, IsRelOverTwo};
 ghost use Rattle.cf_warn.specs.Questions.{set_at, term_at, rel_at};
 ghost use Rattle.cf_warn.specs.Writing.{level_of};
 
 use cf_linear::place;
-use cf_tree::{NoMemory, Rel, SetTerm, Term, add_u32, to_u32};
+use cf_tree::{NoMemory, Rel, SetTerm, Term, add_u32, term_over_one, to_u32};
 use std::alloc::Global;
 
 // Where the variables of a choose stand in a question: its parameters first, and so many levels behind them its outputs.
@@ -41,7 +40,7 @@ impl Levels {
             SetTerm::Union(a, b) | SetTerm::Inter(a, b) | SetTerm::Diff(a, b) => {
                 let first = self.boxed_set(alloc, a)?;
                 let second = self.boxed_set(alloc, b)?;
-                Ok(self.set_over_two(set, first, second))
+                Ok(set.over_two(first, second))
             }
         }
     }
@@ -53,19 +52,6 @@ impl Levels {
         Ok(Box::new(alloc, self.set(alloc, set)?)?)
     }
 
-    // The set form over the levels of the question, whose parts there are these.
-    fn set_over_two(&self, set: &SetTerm, a: Box<SetTerm>, b: Box<SetTerm>) -> SetTerm
-        requires { IsSetOverTwo (set_at (level_of self.now) (set_tree set.now)) (set_tree a.value) (set_tree b.value) }
-        ensures { set_tree result ≡ set_at (level_of self.now) (set_tree set.now) }
-    {
-        match set {
-            SetTerm::Union(_, _) => SetTerm::Union(a, b),
-            SetTerm::Inter(_, _) => SetTerm::Inter(a, b),
-            SetTerm::Diff(_, _) => SetTerm::Diff(a, b),
-            _ => unreachable!(),
-        }
-    }
-
     // The number form over the levels of the question.
     #[cycle(term)]
     fn term(&self, alloc: Global, term: &Term) -> Result<Term, NoMemory>
@@ -75,14 +61,14 @@ impl Levels {
             Term::Lit(n) => Ok(Term::Lit(*n)),
             Term::Var(x) => Ok(Term::Var(self.of(*x)?)),
             Term::Card(set) => Ok(Term::Card(self.boxed_set(alloc, set)?)),
-            Term::Neg(a) | Term::Div(a, _) | Term::Mod(a, _) | Term::Abs(a) => {
+            term_over_one!(a) => {
                 let part = self.boxed_term(alloc, a)?;
-                Ok(self.term_over_one(term, part))
+                Ok(term.over_one(part))
             }
             Term::Add(a, b) | Term::Sub(a, b) | Term::Mul(a, b) => {
                 let first = self.boxed_term(alloc, a)?;
                 let second = self.boxed_term(alloc, b)?;
-                Ok(self.term_over_two(term, first, second))
+                Ok(term.over_two(first, second))
             }
         }
     }
@@ -92,33 +78,6 @@ impl Levels {
         ensures { IfOk result (λ new. term_tree new.value ≡ term_at (level_of self.now) (term_tree term.now)) }
     {
         Ok(Box::new(alloc, self.term(alloc, term)?)?)
-    }
-
-    // The number form over the levels of the question, whose part there is this.
-    fn term_over_one(&self, term: &Term, a: Box<Term>) -> Term
-        requires { IsTermOverOne (term_at (level_of self.now) (term_tree term.now)) (term_tree a.value) }
-        ensures { term_tree result ≡ term_at (level_of self.now) (term_tree term.now) }
-    {
-        match term {
-            Term::Neg(_) => Term::Neg(a),
-            Term::Div(_, k) => Term::Div(a, *k),
-            Term::Mod(_, k) => Term::Mod(a, *k),
-            Term::Abs(_) => Term::Abs(a),
-            _ => unreachable!(),
-        }
-    }
-
-    // The same with two parts.
-    fn term_over_two(&self, term: &Term, a: Box<Term>, b: Box<Term>) -> Term
-        requires { IsTermOverTwo (term_at (level_of self.now) (term_tree term.now)) (term_tree a.value) (term_tree b.value) }
-        ensures { term_tree result ≡ term_at (level_of self.now) (term_tree term.now) }
-    {
-        match term {
-            Term::Add(_, _) => Term::Add(a, b),
-            Term::Sub(_, _) => Term::Sub(a, b),
-            Term::Mul(_, _) => Term::Mul(a, b),
-            _ => unreachable!(),
-        }
     }
 
     // The relation over the levels of the question.
@@ -138,7 +97,7 @@ impl Levels {
             Rel::SameSet(a, b) | Rel::OtherSet(a, b) | Rel::Subset(a, b) => {
                 let first = self.boxed_set(alloc, a)?;
                 let second = self.boxed_set(alloc, b)?;
-                Ok(self.rel_over_sets(rel, first, second))
+                Ok(rel.over_sets(first, second))
             }
             Rel::Divides { k, of } => {
                 let of = self.boxed_term(alloc, of)?;
@@ -147,7 +106,7 @@ impl Levels {
             Rel::And(a, b) | Rel::Or(a, b) => {
                 let first = self.boxed_rel(alloc, a)?;
                 let second = self.boxed_rel(alloc, b)?;
-                Ok(self.rel_over_two(rel, first, second))
+                Ok(rel.over_two(first, second))
             }
             Rel::Not(a) => Ok(Rel::Not(self.boxed_rel(alloc, a)?)),
         }
@@ -158,30 +117,5 @@ impl Levels {
         ensures { IfOk result (λ new. rel_tree new.value ≡ rel_at (level_of self.now) (rel_tree rel.now)) }
     {
         Ok(Box::new(alloc, self.rel(alloc, rel)?)?)
-    }
-
-    // The relation over the levels of the question, whose set forms there are these.
-    fn rel_over_sets(&self, rel: &Rel, a: Box<SetTerm>, b: Box<SetTerm>) -> Rel
-        requires { IsRelOverSets (rel_at (level_of self.now) (rel_tree rel.now)) (set_tree a.value) (set_tree b.value) }
-        ensures { rel_tree result ≡ rel_at (level_of self.now) (rel_tree rel.now) }
-    {
-        match rel {
-            Rel::SameSet(_, _) => Rel::SameSet(a, b),
-            Rel::OtherSet(_, _) => Rel::OtherSet(a, b),
-            Rel::Subset(_, _) => Rel::Subset(a, b),
-            _ => unreachable!(),
-        }
-    }
-
-    // The same with two relations.
-    fn rel_over_two(&self, rel: &Rel, a: Box<Rel>, b: Box<Rel>) -> Rel
-        requires { IsRelOverTwo (rel_at (level_of self.now) (rel_tree rel.now)) (rel_tree a.value) (rel_tree b.value) }
-        ensures { rel_tree result ≡ rel_at (level_of self.now) (rel_tree rel.now) }
-    {
-        match rel {
-            Rel::And(_, _) => Rel::And(a, b),
-            Rel::Or(_, _) => Rel::Or(a, b),
-            _ => unreachable!(),
-        }
     }
 }

@@ -1,7 +1,8 @@
 //! Copies of relations and of their parts.
 ghost use Rattle.std.specs.Prelude.{◌≡◌, IfOk};
+ghost use Rattle.cf_tree.specs.OverTerms.{set_over_two, SetHasTwoParts, term_over_one, TermHasOnePart, term_over_two, TermHasTwoParts};
+ghost use Rattle.cf_tree.specs.OverTerms.{rel_over_sets, RelHasSets, rel_over_two, RelHasTwoParts};
 ghost use Rattle.cf_tree.specs.RelView.{set_tree, term_tree, rel_tree};
-ghost use Rattle.cf_tree.specs.SameParts.{IsSetOverTwo, IsTermOverOne, IsTermOverTwo, IsRelOverSets, IsRelOverTwo};
 
 use crate::memory::NoMemory;
 use crate::rel::{Rel, SetTerm, Term};
@@ -32,10 +33,10 @@ impl SetTerm {
         Ok(Box::new(alloc, self.try_copy(alloc)?)?)
     }
 
-    // The same form over two parts equal to its own.
-    fn over_two(&self, a: Box<SetTerm>, b: Box<SetTerm>) -> SetTerm
-        requires { IsSetOverTwo (set_tree self.now) (set_tree a.value) (set_tree b.value) }
-        ensures { set_tree result ≡ set_tree self.now }
+    /// The same form over two other parts.
+    pub fn over_two(&self, a: Box<SetTerm>, b: Box<SetTerm>) -> SetTerm
+        requires { SetHasTwoParts (set_tree self.now) }
+        ensures { set_tree result ≡ set_over_two (set_tree self.now) (set_tree a.value) (set_tree b.value) }
     {
         match self {
             SetTerm::Union(_, _) => SetTerm::Union(a, b),
@@ -75,10 +76,10 @@ impl Term {
         Ok(Box::new(alloc, self.try_copy(alloc)?)?)
     }
 
-    // The same form over a part equal to its own.
-    fn over_one(&self, a: Box<Term>) -> Term
-        requires { IsTermOverOne (term_tree self.now) (term_tree a.value) }
-        ensures { term_tree result ≡ term_tree self.now }
+    /// The same form over another part.
+    pub fn over_one(&self, a: Box<Term>) -> Term
+        requires { TermHasOnePart (term_tree self.now) }
+        ensures { term_tree result ≡ term_over_one (term_tree self.now) (term_tree a.value) }
     {
         match self {
             Term::Neg(_) => Term::Neg(a),
@@ -89,10 +90,10 @@ impl Term {
         }
     }
 
-    // The same form over two parts equal to its own.
-    fn over_two(&self, a: Box<Term>, b: Box<Term>) -> Term
-        requires { IsTermOverTwo (term_tree self.now) (term_tree a.value) (term_tree b.value) }
-        ensures { term_tree result ≡ term_tree self.now }
+    /// The same form over two other parts.
+    pub fn over_two(&self, a: Box<Term>, b: Box<Term>) -> Term
+        requires { TermHasTwoParts (term_tree self.now) }
+        ensures { term_tree result ≡ term_over_two (term_tree self.now) (term_tree a.value) (term_tree b.value) }
     {
         match self {
             Term::Add(_, _) => Term::Add(a, b),
@@ -146,10 +147,10 @@ impl Rel {
         Ok(Box::new(alloc, self.try_copy(alloc)?)?)
     }
 
-    // The same relation of two set forms equal to its own.
-    fn over_sets(&self, a: Box<SetTerm>, b: Box<SetTerm>) -> Rel
-        requires { IsRelOverSets (rel_tree self.now) (set_tree a.value) (set_tree b.value) }
-        ensures { rel_tree result ≡ rel_tree self.now }
+    /// The same relation of two other set forms.
+    pub fn over_sets(&self, a: Box<SetTerm>, b: Box<SetTerm>) -> Rel
+        requires { RelHasSets (rel_tree self.now) }
+        ensures { rel_tree result ≡ rel_over_sets (rel_tree self.now) (set_tree a.value) (set_tree b.value) }
     {
         match self {
             Rel::SameSet(_, _) => Rel::SameSet(a, b),
@@ -159,10 +160,10 @@ impl Rel {
         }
     }
 
-    // The same relation of two relations equal to its own.
-    fn over_two(&self, a: Box<Rel>, b: Box<Rel>) -> Rel
-        requires { IsRelOverTwo (rel_tree self.now) (rel_tree a.value) (rel_tree b.value) }
-        ensures { rel_tree result ≡ rel_tree self.now }
+    /// The same relation of two other relations.
+    pub fn over_two(&self, a: Box<Rel>, b: Box<Rel>) -> Rel
+        requires { RelHasTwoParts (rel_tree self.now) }
+        ensures { rel_tree result ≡ rel_over_two (rel_tree self.now) (rel_tree a.value) (rel_tree b.value) }
     {
         match self {
             Rel::And(_, _) => Rel::And(a, b),
