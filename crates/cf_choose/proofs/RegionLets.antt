@@ -11,7 +11,6 @@ use Rattle.cf_tree.specs.CodeTree.{code_var, code_card}
 use Rattle.cf_tree.specs.Meaning.{Got, got, none_at, outcome_of, path}
 use Rattle.cf_tree.specs.RelTree.{RelTree}
 use Rattle.cf_tree.specs.Sets.{IsRising}
-use Rattle.cf_tree.specs.Typing.{one}
 use Rattle.cf_tree.specs.Values.{Value, elements, elements_of, value_at, values, HaveBases}
 use Rattle.cf_tree.proofs.RisingLemmas.{rising_filter}
 use Rattle.cf_linear.specs.declared.refusal.TheConstants.{MOST_SETS}

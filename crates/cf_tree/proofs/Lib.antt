@@ -1,6 +1,8 @@
 mod AllowedExamples
 pub mod BaseLemmas
 mod CodeTypingExamples
+mod LeavesExamples
+pub mod LeavesLaws
 mod MeaningExamples
 mod OccursExamples
 mod OverPartsExamples

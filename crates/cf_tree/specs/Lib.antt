@@ -5,6 +5,7 @@ pub mod CodeView
 pub mod DefView
 pub mod ExprTree
 pub mod ExprView
+pub mod Leaves
 pub mod Meaning
 pub mod Numbers
 pub mod OverParts

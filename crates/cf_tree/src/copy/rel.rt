@@ -2,35 +2,38 @@
 ghost use Rattle.std.specs.Prelude.{◌≡◌, IfOk};
 ghost use Rattle.cf_tree.specs.OverTerms.{set_over_two, SetHasTwoParts, term_over_one, TermHasOnePart, term_over_two, TermHasTwoParts};
 ghost use Rattle.cf_tree.specs.OverTerms.{rel_over_sets, RelHasSets, rel_over_two, RelHasTwoParts};
+ghost use Rattle.cf_tree.specs.RelTree.{set_var, term_var};
 ghost use Rattle.cf_tree.specs.RelView.{set_tree, term_tree, rel_tree};
 
+use crate::leaves::Leaves;
 use crate::memory::NoMemory;
 use crate::rel::{Rel, SetTerm, Term};
-use crate::term_over_one;
 use std::alloc::Global;
+
+// Variables that stay as they are.
+struct Same;
+
+impl Leaves for Same {
+    ghost becomes_term = { λ _ x. term_var x };
+
+    ghost becomes_set = { λ _ x. set_var x };
+
+    fn term(&self, level: u32) -> Result<Term, NoMemory> {
+        Ok(Term::Var(level))
+    }
+
+    fn set(&self, level: u32) -> Result<SetTerm, NoMemory> {
+        Ok(SetTerm::Var(level))
+    }
+}
 
 impl SetTerm {
     /// An equal tree.
-    #[cycle(copy_set)]
+    #[tactic(auto, using(crate::proofs::LeavesLaws::set_itself))]
     pub fn try_copy(&self, alloc: Global) -> Result<SetTerm, NoMemory>
         ensures { IfOk result (λ new. set_tree new ≡ set_tree self.now) }
     {
-        match self {
-            SetTerm::Empty => Ok(SetTerm::Empty),
-            SetTerm::Var(x) => Ok(SetTerm::Var(*x)),
-            SetTerm::Union(a, b) | SetTerm::Inter(a, b) | SetTerm::Diff(a, b) => {
-                let first = a.boxed(alloc)?;
-                let second = b.boxed(alloc)?;
-                Ok(self.over_two(first, second))
-            }
-        }
-    }
-
-    #[cycle(copy_set)]
-    pub(crate) fn boxed(&self, alloc: Global) -> Result<Box<SetTerm>, NoMemory>
-        ensures { IfOk result (λ new. set_tree new.value ≡ set_tree self.now) }
-    {
-        Ok(Box::new(alloc, self.try_copy(alloc)?)?)
+        self.rebuilt(alloc, &Same)
     }
 
     /// The same form over two other parts.
@@ -49,31 +52,11 @@ impl SetTerm {
 
 impl Term {
     /// An equal tree.
-    #[cycle(copy_term)]
+    #[tactic(auto, using(crate::proofs::LeavesLaws::term_itself))]
     pub fn try_copy(&self, alloc: Global) -> Result<Term, NoMemory>
         ensures { IfOk result (λ new. term_tree new ≡ term_tree self.now) }
     {
-        match self {
-            Term::Lit(x) => Ok(Term::Lit(*x)),
-            Term::Var(x) => Ok(Term::Var(*x)),
-            Term::Card(a) => Ok(Term::Card(a.boxed(alloc)?)),
-            term_over_one!(a) => {
-                let part = a.boxed(alloc)?;
-                Ok(self.over_one(part))
-            }
-            Term::Add(a, b) | Term::Sub(a, b) | Term::Mul(a, b) => {
-                let first = a.boxed(alloc)?;
-                let second = b.boxed(alloc)?;
-                Ok(self.over_two(first, second))
-            }
-        }
-    }
-
-    #[cycle(copy_term)]
-    pub(crate) fn boxed(&self, alloc: Global) -> Result<Box<Term>, NoMemory>
-        ensures { IfOk result (λ new. term_tree new.value ≡ term_tree self.now) }
-    {
-        Ok(Box::new(alloc, self.try_copy(alloc)?)?)
+        self.rebuilt(alloc, &Same)
     }
 
     /// The same form over another part.
@@ -106,41 +89,13 @@ impl Term {
 
 impl Rel {
     /// An equal tree.
-    #[cycle(copy_rel)]
+    #[tactic(auto, using(crate::proofs::LeavesLaws::rel_itself))]
     pub fn try_copy(&self, alloc: Global) -> Result<Rel, NoMemory>
         ensures { IfOk result (λ new. rel_tree new ≡ rel_tree self.now) }
     {
-        match self {
-            Rel::True => Ok(Rel::True),
-            Rel::False => Ok(Rel::False),
-            Rel::Compare { order, left, right } => {
-                let left = left.boxed(alloc)?;
-                let right = right.boxed(alloc)?;
-                let order = *order;
-                Ok(Rel::Compare { order, left, right })
-            }
-            Rel::SameSet(a, b) | Rel::OtherSet(a, b) | Rel::Subset(a, b) => {
-                let first = a.boxed(alloc)?;
-                let second = b.boxed(alloc)?;
-                Ok(self.over_sets(first, second))
-            }
-            Rel::Divides { k, of } => {
-                let of = of.boxed(alloc)?;
-                Ok(Rel::Divides { k: *k, of })
-            }
-            Rel::And(a, b) | Rel::Or(a, b) => {
-                let first = a.boxed(alloc)?;
-                let second = b.boxed(alloc)?;
-                Ok(self.over_two(first, second))
-            }
-            Rel::Not(a) => {
-                let part = a.boxed(alloc)?;
-                Ok(Rel::Not(part))
-            }
-        }
+        self.rebuilt(alloc, &Same)
     }
 
-    #[cycle(copy_rel)]
     pub(crate) fn boxed(&self, alloc: Global) -> Result<Box<Rel>, NoMemory>
         ensures { IfOk result (λ new. rel_tree new.value ≡ rel_tree self.now) }
     {
