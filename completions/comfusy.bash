@@ -5,7 +5,12 @@ _comfusy() {
   if [ "$COMP_CWORD" = 1 ]; then
     mapfile -t COMPREPLY < <(compgen -W 'compile pre check run exec prove verify gen --help --version' -- "$word")
   elif [[ $word == -* ]]; then
-    if [[ $command == compile || $command == run ]]; then mapfile -t COMPREPLY < <(compgen -W '--plain --stats' -- "$word"); fi
+    case $command in
+      compile) mapfile -t COMPREPLY < <(compgen -W '- --plain --stats' -- "$word") ;;
+      run) mapfile -t COMPREPLY < <(compgen -W '--plain --stats --key --jsonl' -- "$word") ;;
+      exec) mapfile -t COMPREPLY < <(compgen -W '--key --jsonl' -- "$word") ;;
+      pre | check | prove) mapfile -t COMPREPLY < <(compgen -W '-' -- "$word") ;;
+    esac
   elif [ "$command" != gen ]; then
     [ "$command" != exec ] || kind=target
     [[ $command != verify || $COMP_CWORD = 2 ]] || kind=steps

@@ -8,7 +8,7 @@ export const examples = [
  },
  {
   "name": "area",
-  "group": "Read an error",
+  "group": "When a program is refused",
   "title": "area",
   "source": "comfusy 3\n# The area of a field, which may become too long.\ndef main(long: int, wide: int): int = long * wide\n",
   "lines": "12 5\n-3 -3\n18446744073709551616 9223372036854775808\ntwelve 5\n12\n"
@@ -494,6 +494,13 @@ export const examples = [
   "lines": ""
  },
  {
+  "name": "refused-single-equals",
+  "group": "Refused",
+  "title": "single-equals",
+  "source": "comfusy 3\ndef main(a: int): int = choose (x: int) where x = a\n",
+  "lines": ""
+ },
+ {
   "name": "refused-many-cases",
   "group": "Refused",
   "title": "many-cases",
@@ -568,13 +575,6 @@ export const examples = [
   "group": "Refused",
   "title": "two-ways",
   "source": "comfusy 3\ndef main(a: int): bool = 0 < a > 5\n",
-  "lines": ""
- },
- {
-  "name": "refused-single-equals",
-  "group": "Refused",
-  "title": "single-equals",
-  "source": "comfusy 3\ndef main(a: int): int = choose (x: int) where x = a\n",
   "lines": ""
  },
  {
@@ -893,4 +893,4 @@ export const examples = [
   "lines": ""
  }
 ];
-export const programSum = "c36faf73ec9ff93d3bc4ca118b80db3c6d3b5303d5151ef4c50cb96b8b61b0dd";
+export const programSum = "626b09b8d29438de66d6b0fc30bf7e9585fa9831b92083289119a1fce8ccfb55";

@@ -18,7 +18,7 @@ const places = {
 };
 
 const wholes = [
-  [/^no main/, 'A program begins at a function that is named `main`.'],
+  [/^(?:source: )?no main/, 'A program begins at a function that is named `main`.'],
   [/text too long/, 'A program has at most 1,048,576 bytes. A target or steps, read or written, have at most 67,108,864; of language 2 1,048,576 are read.'],
   [/Cases \d/, 'The relation has too many cases: `||` adds them up, `&&` multiplies, and `!=` counts 2. Say with ranges what is left.'],
   [/Search \d/, 'Too many numbers would be tried. If a sum lies between two bounds, give it a name of its own with `==`.'],
@@ -26,8 +26,8 @@ const wholes = [
   [/(Rows|Columns) \d/, 'The relation is too large to be solved at once. Several `choose` one after the other share the work.'],
   [/coefficient past 128 bits/, 'Factors are multiplied on the way to the answer, and the product is past the largest number. Use smaller units, or ' +
     'take the large number apart first.'],
-  [/^Weight/, 'The program is too large once its calls are written out. Call once, and give the result a name with `let`.'],
-  [/^Depth/, 'Parentheses, calls or branches stand too deep in one another.'],
+  [/(?:^|: )Weight \d/, 'The program is too large once its calls are written out. Call once, and give the result a name with `let`.'],
+  [/(?:^|: )Depth \d/, 'Parentheses, calls or branches stand too deep in one another.'],
   [/rejected at case 0 step 0/, 'This is said of the block as a whole: its steps may be right, but its code or its cases are not theirs.'],
   [/rejected at case/, 'Steps and cases count from 1. This step may not be taken where it stands.'],
   [/no memory/, 'The page ran out of memory.'],
@@ -38,8 +38,9 @@ const missing = 'The program ends where something else should come. Perhaps a pa
 
 // What a line of the program means, '' where it says all. `isAtEnd` is whether its place is the end of the program.
 export function helpOf(told, isAtEnd) {
-  const behind = /^(?:steps )?line \d+ column \d+: (.*)$/m.exec(told);
-  if (behind) return isAtEnd && behind[1] === 'syntax' ? missing : places[behind[1]] ?? '';
+  const behind = /^(?:(?:steps )?line \d+ column \d+|source:\d+:\d+): ([a-z 1]+)(?::.*)?$/m.exec(told);
+  if (behind && isAtEnd && behind[1] === 'syntax') return missing;
+  if (behind && places[behind[1]]) return places[behind[1]];
   return wholes.find(([pattern]) => pattern.test(told))?.[1] ?? '';
 }
 

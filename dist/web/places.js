@@ -51,7 +51,7 @@ function rejectedPlace(told, steps) {
 
 // What a line of the program points to: {file, index}, or null. The file is 'source' or 'steps'.
 export function placeOf(told, source, steps) {
-  const found = /^(steps )?line (\d+) column (\d+): /.exec(told);
+  const found = /^(?:(steps )?line |source:)(\d+)(?: column |:)(\d+): /.exec(told);
   if (found) {
     const file = found[1] ? 'steps' : 'source';
     return {file, index: indexAt(file === 'steps' ? steps : source, Number(found[2]), Number(found[3]))};

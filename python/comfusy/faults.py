@@ -8,6 +8,8 @@ from typing import Dict, Optional, Type
 from .library import NO_MEMORY, Answer
 
 _PLACED = re.compile(r"(?:steps )?line (?P<line>\d+) column (?P<column>\d+): (?P<what>.*)")
+_PLACED_THREE = re.compile(r"[^:]+:(?P<line>\d+):(?P<column>\d+): (?P<what>.*)")
+_WHOLE_THREE = re.compile(r"[^:]+: (?P<what>no main|text too long)")
 _HELP = re.compile(r"^help: (?P<help>.*)$", re.MULTILINE)
 
 
@@ -26,11 +28,12 @@ class SourceError(Fault):
     def __init__(self, status: int, text: str) -> None:
         super().__init__(status, text)
         first = text.split("\n", 1)[0]
-        placed = _PLACED.match(first)
+        placed = _PLACED.match(first) or _PLACED_THREE.match(first)
+        whole = placed or _WHOLE_THREE.fullmatch(first)
         more = _HELP.search(text)
         self.line: Optional[int] = int(placed["line"]) if placed else None
         self.column: Optional[int] = int(placed["column"]) if placed else None
-        self.what: str = placed["what"] if placed else first
+        self.what: str = whole["what"] if whole else first
         self.help: Optional[str] = more["help"] if more else None
 
 

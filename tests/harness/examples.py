@@ -11,7 +11,7 @@ from __future__ import annotations
 
 from pathlib import Path
 
-from .program import ROOT
+from .program import ROOT, Room
 
 EXAMPLES = ROOT / "examples"
 EXPECTED = ROOT / "tests/examples"
@@ -25,6 +25,16 @@ def names(folder: str = "") -> list[str]:
 
 def source(name: str) -> Path:
     return EXAMPLES / f"{name}.cf"
+
+
+def named(name: str) -> Path:
+    """The source by the name that it has in a room where the examples are laid."""
+    return source(name).relative_to(ROOT)
+
+
+def lay(room: Room) -> None:
+    """Puts the folder examples/ into a room, so that its files have the names that the pages quote."""
+    (room.folder / EXAMPLES.name).symlink_to(EXAMPLES)
 
 
 def lines(name: str) -> Path:

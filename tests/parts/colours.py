@@ -80,7 +80,7 @@ def wanted_errors(path: Path) -> list[Place]:
     """The place that a file's refusal tells, where it is a bad byte."""
     top = EXAMPLES if path.is_relative_to(EXAMPLES) else EXPECTED
     refusal = text_of(expectation(str(path.relative_to(top).with_suffix("")), "err")).decode()
-    told = re.match(r"line (\d+) column (\d+): bad byte$", refusal)
+    told = re.match(r"line (\d+) column (\d+): bad byte$", refusal) or re.match(r"[^:\n]+:(\d+):(\d+): bad byte: ", refusal)
     return [(int(told[1]), int(told[2]))] if told else []
 
 

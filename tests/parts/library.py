@@ -205,7 +205,8 @@ def jobs() -> Iterator[Job]:
     made = built(folder)
     for how, kind, program in ("C", Room, made["drive"]), ("Python", CalledRoom, made["shared"]):
         for case in cases.standing():
-            if not case.has("streams"):
+            # (under `-` the program alone has its standard input: the library's caller lends it what it likes)
+            if not case.has("streams") and b"-" not in case.words():
                 yield Job(f"library, {how}, {case.name}", partial(try_case, how, kind, program, case))
         for table in tables.every():
             rows = rows_of(table)

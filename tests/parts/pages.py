@@ -57,13 +57,14 @@ def reads_its_lines(words: str) -> bool:
 
 
 def done(words: str, room: Room) -> Ended:
-    """Runs the program as a page quotes it."""
+    """Runs the program as a page quotes it, where the examples are laid."""
     front, _, lines = words.partition(" < ")
     room.put("input", examples.text_of(ROOT / lines) if lines else b"")
-    return room.run([ROOT / word if word.startswith("examples/") else word for word in front.split()])
+    return room.run(front.split())
 
 
 def try_page(page: str, room: Room) -> Iterator[Check]:
+    examples.lay(room)
     status = None
     for quote in quotes(page):
         place = f"{page}, before line {quote.behind}"

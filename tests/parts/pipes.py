@@ -8,6 +8,7 @@ import signal
 import subprocess
 import time
 from collections.abc import Iterator
+from functools import partial
 
 from harness import examples
 from harness.checks import Check, equal
@@ -53,15 +54,18 @@ def try_slow_pipe(room: Room) -> Iterator[Check]:
         yield equal("slow-pipe", (f"status {status(child)}", "status 0"), (first, "2"), (second, "no solution at choose 1"))
 
 
-def try_gone_reader(room: Room) -> Iterator[Check]:
-    """The reader of replies goes away: the next reply cannot be written, or the signal of a broken pipe ends the program."""
-    with start(room) as child:
+def try_gone_reader(room: Room, source: bytes, said: bytes) -> Iterator[Check]:
+    """The reader of replies goes away: the next reply cannot be written, which edition 3 does not tell, or the signal of a broken pipe ends the program."""
+    file = room.folder / "even.cf"
+    file.write_bytes(source)
+    words = [room.program, "run", str(file)]
+    with subprocess.Popen(words, stdin=subprocess.PIPE, stdout=subprocess.PIPE, stderr=subprocess.PIPE, bufsize=0) as child:
         child.stdin.write(b"3 4\n")
         first = reply(child.stdout.fileno())
         child.stdout.close()
         child.stdin.write(b"3 3\n")
         seen = status(child)
-        yield equal("gone-reader", (seen in (5, -signal.SIGPIPE) or f"status {seen}", True), (first, "2"))
+        yield equal("gone-reader", (seen in (5, -signal.SIGPIPE) or f"status {seen}", True), (first, "2"), (child.stderr.read(), said))
 
 
 def slow_pipe_jobs() -> Iterator[Job]:
@@ -69,4 +73,6 @@ def slow_pipe_jobs() -> Iterator[Job]:
 
 
 def gone_reader_jobs() -> Iterator[Job]:
-    yield Job("gone-reader", try_gone_reader)
+    even = examples.source("even").read_bytes()
+    yield Job("gone-reader", partial(try_gone_reader, source=even, said=b"cannot write output\n"))
+    yield Job("gone-reader", partial(try_gone_reader, source=b"comfusy 3\n" + even, said=b""))

@@ -145,8 +145,9 @@ def try_install(room: Room) -> Checks:
     words = [prefix / "bin/comfusy", "run", prefix / "share/comfusy/examples/even.cf"]
     reply = subprocess.run(words, input=LINE, stdout=subprocess.PIPE, check=False).stdout.decode().rstrip("\n")
     yield equal("install, an example", (reply, REPLY))
-    page = (prefix / "share/man/man1/comfusy.1").read_text(encoding="utf-8").splitlines()[1:4]
+    head, *page = (prefix / "share/man/man1/comfusy.1").read_text(encoding="utf-8").splitlines()[:4]
     yield equal("install, the page", (" ".join(page).split(" \\")[0], ".SH NAME comfusy"))
+    yield equal("install, the version", *((told, version_of(prefix / "bin/comfusy")) for told in told_versions(head)))
     yield equal("install, a completion", (completed(prefix / "share/bash-completion/completions/comfusy"), "compile"))
     yield equal("install, links of the pages", (dead_links(prefix / "share/doc/comfusy"), []))
     if (checkout.top / "dist/libcomfusy.a").exists():
@@ -168,6 +169,19 @@ def try_linking(prefix: Path, room: Room) -> Checks:
     environment = os.environ | {"PKG_CONFIG_PATH": str(prefix / "lib/pkgconfig")}
     ran = subprocess.run(["sh", "-c", f"{line} && ./a.out"], capture_output=True, text=True, env=environment, cwd=room.folder, check=False)
     yield equal("install, the line for gcc", (ran.stdout + ran.stderr, blocks["text"][0]))
+
+
+def version_of(program: Path) -> str:
+    """The version that the program tells."""
+    told = subprocess.run([program, "--version"], stdout=subprocess.PIPE, check=False).stdout.decode()
+    return told.removeprefix("comfusy ").split(",")[0]
+
+
+def told_versions(head: str) -> list[str]:
+    """The versions that the head of the manual page, what tells a linker of the library, and the package for Python have."""
+    linked, packed = ((ROOT / name).read_text(encoding="utf-8") for name in ("include/comfusy.pc", "python/backend.py"))
+    found = (re.search(r'"Comfusy ([^"]*)"', head), re.search("(?m)^Version: (.*)$", linked), re.search('VERSION = "comfusy", "(.*)"', packed))
+    return [one[1] if one else "none" for one in found]
 
 
 def dead_links(folder: Path) -> list[str]:

@@ -6,8 +6,10 @@
   WORDS, WRITTEN, PROGRAM         what a command writes on a program, which it reads from the file named behind the first word; what `check` writes of
                                   samples is put into the program, and what `prove` writes is verified
   STATUS, WRITTEN, REFUSED, INPUT, TEXT   the same of `run` on a program that is linear only on the numbers of a line, with tallies of 0 behind it for
-                                  `--stats`; and what all other commands on a source refuse the program for, as not linear
+                                  `--stats`; and the text with which all other commands on a source refuse the program, as not linear
 
+In a table whose name begins with `refused` a row is COMMANDS, STATUS, WRITTEN, PROGRAM: with what commands refuse a program of the name `p.cf`. They are
+`every` command on a source; all `but run`, which takes products with inputs; all `but verify`, which does not look into a choose; or `run` alone.
 In a table whose name begins with `steps` a row is STATUS, WRITTEN, STEPS, PROGRAM: what `verify` writes of the steps.
 In a table whose name begins with `verdicts` a row is VERDICTS, PROGRAM: how each line that `check` writes of a program begins, without samples.
 In a table whose name begins with `words` a row has a status and the words of a command line, each in a column: none is `-`. The files `source`,
@@ -36,6 +38,8 @@ ROWS_OF_A_JOB = 50
 NOT_LINEAR = 8
 TALLIES = b"# fold 0\n# drop-needs 0\n# drop-arms 0\n# drop-lets 0\n"
 OTHER_COMMANDS = ("compile", "file"), ("pre", "file"), ("check", "file"), ("prove", "file"), ("verify", "file", "missing")
+ON_A_SOURCE = "compile", "pre", "check", "prove", "verify", "run"
+REFUSING = {b"every": ON_A_SOURCE, b"but run": ON_A_SOURCE[:-1], b"but verify": (*ON_A_SOURCE[:-2], "run"), b"run": ("run",)}
 
 
 def written(name: str, seen: Ended, status: int, text: bytes) -> Check:
@@ -73,7 +77,7 @@ def try_late(row: Row, room: Room) -> Iterator[Check]:
     if status == 0:
         yield ended(f"{name}, --stats", room.run(("run", "file", "--stats")), 0, text + TALLIES)
     others = [room.run(words, NO_INPUT) for words in OTHER_COMMANDS]
-    refused = [ended(" ".join(words), seen, NOT_LINEAR, err=row.columns[2] + b"\n") for words, seen in zip(OTHER_COMMANDS, others)]
+    refused = [ended(" ".join(words), seen, NOT_LINEAR, err=row.texts[2] + b"\n") for words, seen in zip(OTHER_COMMANDS, others)]
     yield Check(f"{name}, other commands", tuple(f"{it.name}: {fault}" for it in refused for fault in it.faults))
 
 
@@ -96,6 +100,15 @@ def try_verdicts(row: Row, room: Room) -> Iterator[Check]:
     lines = [re.sub(rb"( for |: (?!no |two |outputs |existence |uniqueness |covers |misses |coverage )).*", b"", line) for line in seen.out.splitlines()]
     faults = () if seen.status == 0 and lines == verdicts.splitlines() else (f"status {seen.status}, wrote {seen.out!r} {seen.err!r}",)
     yield Check(row.name(row.columns[-1]), faults)
+
+
+def try_refused(row: Row, room: Room) -> Iterator[Check]:
+    """Each of the commands refuses the program with the same text."""
+    commands, status, _, program = row.columns
+    room.put("p.cf", row.texts[3])
+    for command in REFUSING[commands]:
+        words = (command, "p.cf", "missing") if command == "verify" else (command, "p.cf")
+        yield ended(row.name(program.removeprefix(b"comfusy 3\\n") + b", " + command.encode()), room.run(words, NO_INPUT), int(status), err=row.texts[2])
 
 
 def try_steps(row: Row, room: Room) -> Iterator[Check]:
@@ -125,6 +138,8 @@ def trial_of(row: Row) -> Callable[[Row, Room], Iterator[Check]]:
         return try_words
     if row.table.startswith("verdicts"):
         return try_verdicts
+    if row.table.startswith("refused"):
+        return try_refused
     of_four = try_steps if row.table.startswith("steps") else partial(try_text, "exec" if row.table.startswith("targets") else "run")
     return {2: try_rule, 3: try_written, 4: of_four, 5: try_late}.get(len(row.columns), no_row)
 

@@ -19,6 +19,7 @@ GIVEN = (".target", ".steps")
 
 
 def try_example(name: str, room: Room) -> Iterator[Check]:
+    examples.lay(room)
     yield try_command(name, "run", examples.source(name), "out", room)
     if is_late(name):
         for command in KINDS:
@@ -39,11 +40,12 @@ def try_command(name: str, command: str, path: Path, kind: str, room: Room) -> C
 def try_refused(name: str, command: str, room: Room) -> Check:
     """A source is refused by a command."""
     err = text_of(expectation(name, "err"))
-    seen = room.run((command, examples.source(name)), NO_INPUT)
-    return ended(f"example {name}, {command}", seen, status_of(err.decode().rstrip("\n")), err=err)
+    seen = room.run((command, examples.named(name)), NO_INPUT)
+    return ended(f"example {name}, {command}", seen, status_of(err.decode()), err=err)
 
 
 def try_refused_example(name: str, room: Room) -> Iterator[Check]:
+    examples.lay(room)
     yield try_refused(name, "run", room)
 
 
@@ -51,7 +53,7 @@ def try_steps(name: str, room: Room) -> Iterator[Check]:
     """What `verify` writes on steps that were written by hand."""
     out, err = (text_of(expectation(name, kind)) for kind in ("out", "err"))
     seen = room.run(("verify", examples.source(name), EXAMPLES / f"{name}.steps"), NO_INPUT)
-    yield ended(f"example {name}, verify", seen, status_of(err.decode().rstrip("\n")) if err else 0, out, err)
+    yield ended(f"example {name}, verify", seen, status_of(err.decode()) if err else 0, out, err)
 
 
 def owed() -> Iterator[str]:

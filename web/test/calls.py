@@ -11,8 +11,8 @@ from packing import packed_with_answer, unpacked
 
 
 def kept(path):
-    """Returns the calls of a compressed file."""
-    return unpacked(gzip.decompress(path.read_bytes()))
+    """Returns the calls of a compressed file, but for those on `-`: the page has no standard input beside its files."""
+    return [call for call in unpacked(gzip.decompress(path.read_bytes())) if b"-" not in call[0]]
 
 
 def write_files(folder, files):

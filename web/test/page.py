@@ -30,9 +30,9 @@ def try_refused(reader):
     """Each source that is refused, with its place; and a help for each."""
     reader.press("run")
     for name in names_in("refused"):
-        seen, wanted = reader.example(name), text_of(f"{name}.err").strip()
+        seen, wanted = reader.example(name), text_of(f"{name}.err").strip().replace(f"examples/{name}.cf:", "source:")
         reader.judge.judge(f"page, {name}", [seen["told"], seen["replies"]], [wanted, []])
-        place = re.match(r"line (\d+) ", wanted)
+        place = re.match(r"(?:line |source:)(\d+)", wanted)
         if place:
             reader.judge.judge(f"page, {name}, its line", [seen["rows"], len(seen["marks"])], [[int(place[1])], 1])
         elif wanted.startswith("choose "):

@@ -56,7 +56,7 @@ replies_by_tree t u same [] out h = h
 replies_by_tree t u same (line ∷ ls) out h = (h.0, h.1, h.2, reply_by_tree t u same line h.0 h.3, replies_by_tree t u same ls h.1 h.4)
 
 pub compiled_is_run : CompiledIsRun
-compiled_is_run flags name source given last ls text (t, c, p) short =
+compiled_is_run flags form name source given last ls text (t, c, p) short =
     let same = edition_read text (edition_of source) p.reads_back.of_edition in
     let fits : length text ≤ most_of (of_target (edition_of text)) = subst (λ e. length text ≤ most_of (of_target e)) same short in
     let typed : IsTypedTarget text (target_tree t) = (
@@ -64,7 +64,7 @@ compiled_is_run flags name source given last ls text (t, c, p) short =
       c.0.2.typed,
     ) in
     record {
-      accepted = owed_accepted (exec name) (text ∷ []) given last [] [] (t, typed, refl);
+      accepted = owed_accepted (exec form name) (text ∷ []) given last [] [] (t, typed, refl);
       replies = λ before behind lines out o.
           let all = replies_by_tree t o.0 (target_once text (target_tree o.0) (target_tree t) o.1.0 typed.0) lines out o.2 in
           compiled t c all (replies_picked (applied (not flags.plain) given) (applied (not flags.plain) last) source t lines out c.0 all);

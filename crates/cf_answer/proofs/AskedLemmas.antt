@@ -1,7 +1,7 @@
 -- The chooses of a source, as blocks are checked against them.
 use Rattle.std.proofs.Common.{◌≡◌, ◌∙◌, inl, inr, ap, refl, ℕ, List, [], ◌∷◌, Option, map, All}
 use Rattle.std.proofs.lemmas.List.Elements.{All-head, All-tail}
-use Rattle.std.specs.Prelude.{Result, Ok, Err, IfOk, IfErr}
+use Rattle.std.specs.Prelude.{◌⊎◌, Result, Ok, Err, IfOk, IfErr}
 use Rattle.cf_cases.specs.Holding.{EachOf}
 use Rattle.cf_io.specs.Seen.{ShelfSeen}
 use Rattle.cf_tree.specs.ChooseView.{choose_tree}
@@ -19,6 +19,7 @@ use Rattle.cf_answer.specs.Steps.{IsVerdict}
 use Rattle.cf_answer.specs.Verifying.{told_in, IsToldProgram, NoneFailed, IsSourceFault, broken_file, no_room}
 use Rattle.cf_answer.proofs.LoweredLemmas.{lowered_chooses}
 use Rattle.cf_answer.specs.declared.fault.Fault.{Fault}
+use Rattle.cf_answer.specs.declared.fault.Fault.TheVariants as fault
 
 abbrev IsAskedChoose : Choose → Type 0
 IsAskedChoose c = IsTypedChoose (choose_tree c)
@@ -60,3 +61,8 @@ module _ (name : List ℕ) (before after : ShelfSeen) (text : List ℕ) (told : 
   source_fault (Ok l) asks same = tt
   source_fault (Err f) (inl broken) same = broken_file (text, told, broken) same
   source_fault (Err f) (inr memory) same = no_room memory same
+
+  -- the same of a fault
+  pub fault_told : (f : Fault) → IsBrokenSource text f ⊎ (f ≡ fault.NoMemory) → NoneFailed before after → IsSourceFault name before after f
+  fault_told f (inl broken) same = broken_file (text, told, broken) same
+  fault_told f (inr memory) same = no_room memory same

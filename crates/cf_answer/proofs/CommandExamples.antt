@@ -3,12 +3,16 @@ use Rattle.std.proofs.Common.{◌≡◌, inl, inr, ℕ, Bool, true, false, List,
 use Rattle.cf_pass.specs.Passes.{Told}
 use Rattle.cf_words.specs.Commands.{compile, run, pre, check, exec, prove, verify, gen, help, version}
 use Rattle.cf_words.specs.declared.command.Flags.{Flags}
+use Rattle.cf_words.specs.declared.command.ReplyForm.{ReplyForm}
 use Rattle.cf_answer.specs.Commands.{names_of, reads_input, calls_passes, tells_tallies}
 use Rattle.cf_answer.specs.Ends.{input_for}
 use Rattle.cf_answer.specs.Passes.{ArePassed}
 use Rattle.cf_answer.specs.Statuses.{IsEarly}
 use Rattle.cf_answer.specs.declared.status.Status.TheVariants.{Done, Usage, File, Input, Output, Text}
 use Rattle.cf_answer.specs.declared.status.Status.TheVariants.{Types, NotLinear, Past, Limit, InputLong, NoMemory, Rejected}
+
+abbrev form : ReplyForm
+form = record { key = false; jsonl = false }
 
 abbrev flags : Bool → Bool → Flags
 flags plain stats = record { plain = plain; stats = stats }
@@ -20,8 +24,8 @@ abbrev b : List ℕ
 b = codes "b"
 
 -- ---- files
-one-name : (names_of (compile (flags false false) a) ≡ a ∷ []) × (names_of (run (flags false false) a) ≡ a ∷ []) × (names_of (pre a) ≡ a ∷ [])
-    × (names_of (check a) ≡ a ∷ []) × (names_of (exec a) ≡ a ∷ []) × (names_of (prove a) ≡ a ∷ [])
+one-name : (names_of (compile (flags false false) a) ≡ a ∷ []) × (names_of (run (flags false false) form a) ≡ a ∷ []) × (names_of (pre a) ≡ a ∷ [])
+    × (names_of (check a) ≡ a ∷ []) × (names_of (exec form a) ≡ a ∷ []) × (names_of (prove a) ≡ a ∷ [])
 one-name = (refl, refl, refl, refl, refl, refl)
 
 two-names : names_of (verify a b) ≡ a ∷ b ∷ []
@@ -31,7 +35,7 @@ no-name : (names_of (gen 7) ≡ []) × (names_of help ≡ []) × (names_of versi
 no-name = (refl, refl, refl)
 
 -- ---- the input
-read-by : (reads_input (run (flags true true) a) ≡ true) × (reads_input (exec a) ≡ true)
+read-by : (reads_input (run (flags true true) form a) ≡ true) × (reads_input (exec form a) ≡ true)
 read-by = (refl, refl)
 
 unread-by : (reads_input (compile (flags false false) a) ≡ false) × (reads_input (pre a) ≡ false) × (reads_input (check a) ≡ false)
@@ -39,23 +43,23 @@ unread-by : (reads_input (compile (flags false false) a) ≡ false) × (reads_in
     × (reads_input help ≡ false) × (reads_input version ≡ false)
 unread-by = (refl, refl, refl, refl, refl, refl, refl, refl)
 
-exec-is_given_it : input_for (exec a) (codes "1\n") ≡ codes "1\n"
+exec-is_given_it : input_for (exec form a) (codes "1\n") ≡ codes "1\n"
 exec-is_given_it = refl
 
 -- ---- passes
-called-by : (calls_passes (compile (flags false true) a) ≡ true) × (calls_passes (run (flags false true) a) ≡ true) × (calls_passes (gen 7) ≡ true)
+called-by : (calls_passes (compile (flags false true) a) ≡ true) × (calls_passes (run (flags false true) form a) ≡ true) × (calls_passes (gen 7) ≡ true)
 called-by = (refl, refl, refl)
 
-uncalled-by : (calls_passes (compile (flags true false) a) ≡ false) × (calls_passes (run (flags true false) a) ≡ false) × (calls_passes (pre a) ≡ false)
-    × (calls_passes (check a) ≡ false) × (calls_passes (exec a) ≡ false) × (calls_passes (prove a) ≡ false) × (calls_passes (verify a b) ≡ false)
+uncalled-by : (calls_passes (compile (flags true false) a) ≡ false) × (calls_passes (run (flags true false) form a) ≡ false) × (calls_passes (pre a) ≡ false)
+    × (calls_passes (check a) ≡ false) × (calls_passes (exec form a) ≡ false) × (calls_passes (prove a) ≡ false) × (calls_passes (verify a b) ≡ false)
     × (calls_passes help ≡ false) × (calls_passes version ≡ false)
 uncalled-by = (refl, refl, refl, refl, refl, refl, refl, refl, refl)
 
-tallies-told : (tells_tallies (compile (flags true true) a) ≡ true) × (tells_tallies (run (flags false true) a) ≡ true)
+tallies-told : (tells_tallies (compile (flags true true) a) ≡ true) × (tells_tallies (run (flags false true) form a) ≡ true)
 tallies-told = (refl, refl)
 
-tallies-untold : (tells_tallies (compile (flags true false) a) ≡ false) × (tells_tallies (run (flags true false) a) ≡ false)
-    × (tells_tallies (pre a) ≡ false) × (tells_tallies (check a) ≡ false) × (tells_tallies (exec a) ≡ false) × (tells_tallies (prove a) ≡ false)
+tallies-untold : (tells_tallies (compile (flags true false) a) ≡ false) × (tells_tallies (run (flags true false) form a) ≡ false)
+    × (tells_tallies (pre a) ≡ false) × (tells_tallies (check a) ≡ false) × (tells_tallies (exec form a) ≡ false) × (tells_tallies (prove a) ≡ false)
     × (tells_tallies (verify a b) ≡ false) × (tells_tallies (gen 7) ≡ false) × (tells_tallies help ≡ false) × (tells_tallies version ≡ false)
 tallies-untold = (refl, refl, refl, refl, refl, refl, refl, refl, refl, refl)
 

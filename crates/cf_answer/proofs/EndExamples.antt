@@ -7,6 +7,7 @@ use Rattle.cf_io.specs.Lines.{lines, ended}
 use Rattle.cf_io.specs.Seen.{SourceSeen, SinkSeen}
 use Rattle.cf_pass.specs.Passes.{Told}
 use Rattle.cf_words.specs.Commands.{run, compile}
+use Rattle.cf_words.specs.declared.command.ReplyForm.{ReplyForm}
 use Rattle.cf_answer.specs.Ends.{Job, Reads, IsReadUp, Ends}
 use Rattle.cf_answer.specs.Commands.{output_most}
 use Rattle.cf_answer.specs.Limits.{edition_for, input_most, written_limit}
@@ -15,12 +16,15 @@ use Rattle.cf_answer.specs.Owed.{Owes}
 use Rattle.cf_answer.specs.Refusals.{Refuses}
 use Rattle.cf_answer.specs.declared.fault.Fault.TheVariants as fault
 
+abbrev form : ReplyForm
+form = record { key = false; jsonl = false }
+
 -- run --plain --stats a, where the one pass tells this
 abbrev passes : List Told
 passes = record { name = codes "fold"; tally = 12; turns = 3; makes = λ n c. c; whole = true } ∷ []
 
 abbrev job : Job
-job = record { command = run (record { plain = true; stats = true }) (codes "a"); files = codes "source" ∷ []; given = passes; passes = passes }
+job = record { command = run (record { plain = true; stats = true }) form (codes "a"); files = codes "source" ∷ []; given = passes; passes = passes }
 
 -- compile a
 abbrev compiling : Job
@@ -234,7 +238,12 @@ refused-by_its_target h = h.0
 
 -- ---- edition 3 has no limit of the input
 abbrev unlimited : Job
-unlimited = record { command = run (record { plain = true; stats = false }) (codes "a"); files = codes "comfusy 3\n" ∷ []; given = passes; passes = passes }
+unlimited = record {
+  command = run (record { plain = true; stats = false }) form (codes "a");
+  files = codes "comfusy 3\n" ∷ [];
+  given = passes;
+  passes = passes;
+}
 
 without-limit : input_most unlimited.files ≡ None
 without-limit = refl

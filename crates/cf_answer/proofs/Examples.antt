@@ -8,12 +8,16 @@ use Rattle.cf_linear.specs.declared.refusal.LimitKind.TheVariants as kind
 use Rattle.cf_linear.specs.declared.refusal.Refusal.TheVariants as refusal
 use Rattle.cf_pass.specs.Passes.{Told}
 use Rattle.cf_words.specs.Commands.{compile, run, pre, exec, verify, gen}
+use Rattle.cf_words.specs.declared.command.ReplyForm.{ReplyForm}
 use Rattle.cf_answer.specs.Commands.{names_of, reads_input, calls_passes}
 use Rattle.cf_answer.specs.Ends.{input_for, answered_lines, behind_lines}
 use Rattle.cf_answer.specs.Passes.{AreCalled, ArePassed, applied, closing}
 use Rattle.cf_answer.specs.Statuses.{code_of, status_of}
 use Rattle.cf_answer.specs.Texts.{answer_line}
 use Rattle.cf_answer.specs.declared.fault.Fault.TheVariants as fault
+
+abbrev form : ReplyForm
+form = record { key = false; jsonl = false }
 
 -- passes that tell this
 abbrev fold : ℕ → ℕ → Told
@@ -25,7 +29,7 @@ drop_needs tally turns = record { name = codes "drop-needs"; tally = tally; turn
 abbrev two_passes : List Told
 two_passes = fold 12 3 ∷ drop_needs 0 0 ∷ []
 
-tallies : closing (run (record { plain = true; stats = true }) (codes "a")) two_passes ≡ codes "# fold 12\n# drop-needs 0\n"
+tallies : closing (run (record { plain = true; stats = true }) form (codes "a")) two_passes ≡ codes "# fold 12\n# drop-needs 0\n"
 unfolding digits
 tallies = refl
 
@@ -78,10 +82,10 @@ two_are_applied = refl
 none_is_applied : applied false two_passes ≡ []
 none_is_applied = refl
 
-run_calls_passes : calls_passes (run (record { plain = false; stats = false }) (codes "a")) ≡ true
+run_calls_passes : calls_passes (run (record { plain = false; stats = false }) form (codes "a")) ≡ true
 run_calls_passes = refl
 
-plain_calls_none : calls_passes (run (record { plain = true; stats = true }) (codes "a")) ≡ false
+plain_calls_none : calls_passes (run (record { plain = true; stats = true }) form (codes "a")) ≡ false
 plain_calls_none = refl
 
 two_names : names_of (verify (codes "a") (codes "b")) ≡ codes "a" ∷ codes "b" ∷ []
@@ -99,7 +103,7 @@ gen_calls_passes = refl
 gen_tells_no_tallies : closing (gen 1) two_passes ≡ []
 gen_tells_no_tallies = refl
 
-exec_reads : reads_input (exec (codes "a")) ≡ true
+exec_reads : reads_input (exec form (codes "a")) ≡ true
 exec_reads = refl
 
 verify_reads_none : reads_input (verify (codes "a") (codes "b")) ≡ false
@@ -108,7 +112,7 @@ verify_reads_none = refl
 compile_reads_none : input_for (compile (record { plain = false; stats = false }) (codes "a")) (codes "1\n") ≡ []
 compile_reads_none = refl
 
-run_is_answered : answered_lines (Some input_limit) (input_for (run (record { plain = false; stats = false }) (codes "a")) (codes "1\n2")) ≡ codes "1" ∷ codes
+run_is_answered : answered_lines (Some input_limit) (input_for (run (record { plain = false; stats = false }) form (codes "a")) (codes "1\n2")) ≡ codes "1" ∷ codes
     "2" ∷ []
 unfolding input_limit
 run_is_answered = refl

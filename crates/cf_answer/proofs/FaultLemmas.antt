@@ -30,6 +30,8 @@ IsTextFault (fault.NumberPast p) = Unit {0}
 IsTextFault (fault.Syntax p) = Unit {0}
 IsTextFault (fault.Rule e) = Unit {0}
 IsTextFault (fault.Choose n r) = Unit {0}
+IsTextFault (fault.Weight f w) = Unit {0}
+IsTextFault (fault.Depth f d) = Unit {0}
 IsTextFault fault.BadTarget = Unit {0}
 IsTextFault (fault.Steps e) = Unit {0}
 IsTextFault (fault.Rejected n i j w) = Unit {0}
@@ -81,10 +83,10 @@ verify_fault source steps f (bad_blocks typed bs n i j w s b v) = tt
 
 pub refused_fault : (c : Command) (files : List (List ℕ)) (f : Fault) → Refuses c files f → IsTextFault f
 refused_fault (compile flags name) (text ∷ []) f h = source_text text f h
-refused_fault (run flags name) (text ∷ []) f h = run_text text f h
+refused_fault (run flags form name) (text ∷ []) f h = run_text text f h
 refused_fault (pre name) (text ∷ []) f h = source_text text f h
 refused_fault (check name) (text ∷ []) f h = source_text text f h
-refused_fault (exec name) (text ∷ []) f h = target_text text f h
+refused_fault (exec form name) (text ∷ []) f h = target_text text f h
 refused_fault (prove name) (text ∷ []) f h = source_text text f h
 refused_fault (verify name other) (source ∷ steps ∷ []) f h = verify_fault source steps f h
 refused_fault (gen n) [] f h = source_text (gen_source n) f h

@@ -17,6 +17,7 @@ use Rattle.cf_answer.specs.Passes.{ArePassed, applied}
 use Rattle.cf_answer.specs.Steps.{AddUp}
 use Rattle.cf_answer.specs.declared.fault.Fault.TheVariants as fault
 use Rattle.cf_words.specs.declared.command.Flags.{Flags}
+use Rattle.cf_words.specs.declared.command.ReplyForm.{ReplyForm}
 use Rattle.cf_answer.proofs.AnswerLemmas.{memory_answers}
 use Rattle.cf_answer.proofs.PassLemmas.{called_passed, kept_passed}
 use Rattle.cf_answer.proofs.PickedLemmas.{sum_picked}
@@ -50,8 +51,8 @@ pub run_passed : (calls : Bool) (file : List ℕ) (given last : List Told) (ls :
 run_passed calls file given last ls text (compiled t (c, called) replies picked) = called_passed calls given last called
 run_passed calls file given last ls text (late typed s replies allowed same) = kept_passed calls given last same
 
-pub run_without_memory : (flags : Flags) (name file : List ℕ) (given last : List Told) (s : Streams) → OwesRun (not flags.plain) file given last [] [] →
-    AnswersOn (run flags name) given last (file ∷ []) s s (Err fault.NoMemory)
-run_without_memory flags name file given last s h =
-    memory_answers (run flags name) given last (file ∷ []) s (run_passed (not flags.plain) file given last [] [] h)
+pub run_without_memory : (flags : Flags) (form : ReplyForm) (name file : List ℕ) (given last : List Told) (s : Streams) →
+    OwesRun (not flags.plain) file given last [] [] → AnswersOn (run flags form name) given last (file ∷ []) s s (Err fault.NoMemory)
+run_without_memory flags form name file given last s h =
+    memory_answers (run flags form name) given last (file ∷ []) s (run_passed (not flags.plain) file given last [] [] h)
     (λ f r. absurd (run_unrefused (not flags.plain) file given last [] [] f h r))

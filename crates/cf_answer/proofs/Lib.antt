@@ -15,6 +15,7 @@ mod CommandExamples
 pub mod CountLemmas
 mod DoesExamples
 mod EndExamples
+pub mod EndedLemmas
 mod Examples
 pub mod FaultLemmas
 pub mod FileLemmas
@@ -44,6 +45,7 @@ pub mod ReplyLemmas
 pub mod RuleLemmas
 pub mod RunLemmas
 pub mod SampleLemmas
+pub mod SayingLemmas
 pub mod SourceLemmas
 pub mod SpelledLemmas
 mod StatusExamples
@@ -65,4 +67,5 @@ pub mod WorkloadShapes
 pub mod WorkloadSource
 pub mod WorkloadSum
 pub mod WorkloadTyped
+mod WrittenExamples
 pub mod WrittenLemmas

@@ -2,6 +2,7 @@
 use Rattle.std.proofs.Common.{◌≡◌, true, false, Some, None, codes, refl}
 use Rattle.cf_words.specs.Commands.{compile, run, pre, exec, prove, verify}
 use Rattle.cf_words.specs.declared.command.Flags.{Flags}
+use Rattle.cf_words.specs.declared.command.ReplyForm.{ReplyForm}
 use Rattle.cf_tree.specs.declared.base.Edition.TheVariants.{Two, Three}
 use Rattle.cf_answer.specs.Commands.{output_most, text_most}
 use Rattle.cf_answer.specs.Limits.{text_limit, written_limit, of_source, of_target, tokens_of, most_of, written_most}
@@ -27,15 +28,18 @@ tokens-by_edition = (refl, refl, refl)
 written-by_edition : (written_most Two ≡ None) × (written_most Three ≡ Some written_limit)
 written-by_edition = (refl, refl)
 
+abbrev form : ReplyForm
+form = record { key = false; jsonl = false }
+
 abbrev plain : Flags
 plain = record { plain = true; stats = false }
 
 -- by whom
 written-by_command : (output_most (compile plain (codes "a")) Three ≡ Some written_limit) × (output_most (compile plain (codes "a")) Two ≡ None)
-    × (output_most (prove (codes "a")) Three ≡ Some written_limit) × (output_most (run plain (codes "a")) Three ≡ None)
+    × (output_most (prove (codes "a")) Three ≡ Some written_limit) × (output_most (run plain form (codes "a")) Three ≡ None)
     × (output_most (pre (codes "a")) Three ≡ None)
 written-by_command = (refl, refl, refl, refl, refl)
 
-taken-by_command : (text_most (run plain (codes "a")) Three ≡ text_limit) × (text_most (exec (codes "a")) Two ≡ written_limit)
+taken-by_command : (text_most (run plain form (codes "a")) Three ≡ text_limit) × (text_most (exec form (codes "a")) Two ≡ written_limit)
     × (text_most (verify (codes "a") (codes "b")) Two ≡ text_limit) × (text_most (verify (codes "a") (codes "b")) Three ≡ written_limit)
 taken-by_command = (refl, refl, refl, refl)

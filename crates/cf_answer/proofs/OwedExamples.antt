@@ -17,6 +17,7 @@ use Rattle.cf_form.specs.Told.{ToldChoose}
 use Rattle.cf_eval.specs.Replies.{IsReply}
 use Rattle.cf_pass.specs.Passes.{Told, HaveTurned}
 use Rattle.cf_words.specs.declared.command.Flags.{Flags}
+use Rattle.cf_words.specs.declared.command.ReplyForm.{ReplyForm}
 use Rattle.cf_words.specs.Commands.{compile, run, pre, check, exec, prove, verify, gen, help, version}
 use Rattle.cf_answer.specs.About.{help_text}
 use Rattle.cf_answer.specs.Branches.{AreBranched}
@@ -36,7 +37,7 @@ flags = record { plain = false; stats = false }
 abbrev plain : Flags
 plain = record { plain = true; stats = false }
 
-module _ (name other source steps : List ℕ) (given last : List Told) (ls : List (List ℕ)) (text : List ℕ) where
+module _ (form : ReplyForm) (name other source steps : List ℕ) (given last : List Told) (ls : List (List ℕ)) (text : List ℕ) where
   of-compile : Same (Owes (compile flags name) (source ∷ []) given last ls text)
       ((t : RawTarget) × IsCompiledBy true source given last t × IsPrinted (edition_of source) t text)
   of-compile = (λ h. h, λ h. h)
@@ -45,10 +46,10 @@ module _ (name other source steps : List ℕ) (given last : List Told) (ls : Lis
       ((t : RawTarget) × IsCompiledBy false source given last t × IsPrinted (edition_of source) t text)
   of-plain_compile = (λ h. h, λ h. h)
 
-  of-run : Same (Owes (run flags name) (source ∷ []) given last ls text) (OwesRun true source given last ls text)
+  of-run : Same (Owes (run flags form name) (source ∷ []) given last ls text) (OwesRun true source given last ls text)
   of-run = (λ h. h, λ h. h)
 
-  of-plain_run : Same (Owes (run plain name) (source ∷ []) given last ls text) (OwesRun false source given last ls text)
+  of-plain_run : Same (Owes (run plain form name) (source ∷ []) given last ls text) (OwesRun false source given last ls text)
   of-plain_run = (λ h. h, λ h. h)
 
   of-pre : Same (Owes (pre name) (source ∷ []) given last ls text) ((cs : List (ChooseTree × Branch)) × AreBranched source cs × ArePres cs text)
@@ -58,7 +59,7 @@ module _ (name other source steps : List ℕ) (given last : List Told) (ls : Lis
       ((told : List ToldChoose) × AreToldOf source told × (typed : TypedTree) × IsTypedSource source typed × AreChecks told typed text)
   of-check = (λ h. h, λ h. h)
 
-  of-exec : Same (Owes (exec name) (source ∷ []) given last ls text)
+  of-exec : Same (Owes (exec form name) (source ∷ []) given last ls text)
       ((t : RawTarget) × IsTypedTarget source (target_tree t) × AreReplies (by_target t) ls text)
   of-exec = (λ h. h, λ h. h)
 
@@ -78,7 +79,7 @@ module _ (name other source steps : List ℕ) (given last : List Told) (ls : Lis
   of-help : Same (Owes help [] given last ls text) (text ≡ help_text)
   of-help = (λ h. h, λ h. h)
 
-  of-version : Same (Owes version [] given last ls text) (text ≡ codes "comfusy, language 2\n")
+  of-version : Same (Owes version [] given last ls text) (text ≡ codes "comfusy 1.0, editions 2 and 3 of the language\n")
   of-version = (λ h. h, λ h. h)
 
   of-too_few : Owes (verify name other) (source ∷ []) given last ls text → ⊥

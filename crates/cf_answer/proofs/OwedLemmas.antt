@@ -18,10 +18,10 @@ use Rattle.cf_answer.proofs.TargetLemmas.{targets_alike, typed_unrefused}
 pub refused_alike : (command : Command) (files : List (List ℕ)) (f g : Fault) → Refuses command files f → Refuses command files g →
     fault_status f ≡ fault_status g
 refused_alike (compile flags name) (text ∷ []) f g h i = sources_alike text f g h i
-refused_alike (run flags name) (text ∷ []) f g h i = runs_alike text f g h i
+refused_alike (run flags form name) (text ∷ []) f g h i = runs_alike text f g h i
 refused_alike (pre name) (text ∷ []) f g h i = sources_alike text f g h i
 refused_alike (check name) (text ∷ []) f g h i = sources_alike text f g h i
-refused_alike (exec name) (text ∷ []) f g h i = targets_alike text f g h i
+refused_alike (exec form name) (text ∷ []) f g h i = targets_alike text f g h i
 refused_alike (prove name) (text ∷ []) f g h i = sources_alike text f g h i
 refused_alike (verify name other) (source ∷ steps ∷ []) f g h i = verify_alike source steps f g h i
 refused_alike (gen n) [] f g h i = sources_alike (gen_source n) f g h i
@@ -33,10 +33,10 @@ pub owed_accepted : (command : Command) (files : List (List ℕ)) (given passes 
     IsAccepted command files
 owed_accepted (compile flags name) (file ∷ []) given passes ls text h =
     λ f r. compiled_unrefused (applied (not flags.plain) given) (applied (not flags.plain) passes) file h.0 f h.1.0 r
-owed_accepted (run flags name) (file ∷ []) given passes ls text h = λ f r. run_unrefused (not flags.plain) file given passes ls text f h r
+owed_accepted (run flags form name) (file ∷ []) given passes ls text h = λ f r. run_unrefused (not flags.plain) file given passes ls text f h r
 owed_accepted (pre name) (file ∷ []) given passes ls text h = λ f r. pres_unrefused file h.0 text f h.1 h.2 r
 owed_accepted (check name) (file ∷ []) given passes ls text h = λ f r. checks_unrefused file h.0 h.2 text f h.3 h.4 r
-owed_accepted (exec name) (file ∷ []) given passes ls text h = λ f r. typed_unrefused file (target_tree h.0) f h.1 r
+owed_accepted (exec form name) (file ∷ []) given passes ls text h = λ f r. typed_unrefused file (target_tree h.0) f h.1 r
 owed_accepted (prove name) (file ∷ []) given passes ls text h = λ f r. proofs_unrefused file h.0 text f h.1 h.2 r
 owed_accepted (verify name other) (source ∷ steps ∷ []) given passes ls text h = λ f r. verify_unrefused source steps h.0 f h.1 h.2 r
 owed_accepted (gen n) [] given passes ls text h = λ f r. compiled_unrefused given passes (gen_source n) h.0 f h.1.0 r

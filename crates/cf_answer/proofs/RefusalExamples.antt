@@ -31,6 +31,7 @@ use Rattle.cf_cert.specs.declared.verdict.Verdict.TheVariants.{Rejected}
 use Rattle.cf_cert.specs.declared.verdict.Why.{Why}
 use Rattle.cf_words.specs.Commands.{compile, run, pre, check, exec, prove, verify, gen, help, version}
 use Rattle.cf_words.specs.declared.command.Flags.{Flags}
+use Rattle.cf_words.specs.declared.command.ReplyForm.{ReplyForm}
 use Rattle.cf_answer.specs.Limits.{TextKind, text_limit, written_limit, of_source, of_target, most_of}
 use Rattle.cf_answer.specs.Refusals.{IsBroken, broken, wide, form_fault, CausesOf}
 use Rattle.cf_answer.specs.Refusals.{IsSyntaxPlace, Causes, too_long, odd_byte, large_number, no_tree, bad_tree}
@@ -233,7 +234,7 @@ one-fault : (t : TargetTree) (f : Fault) → IsBadTarget t f → f ≡ fault.Bad
 one-fault t f (untyped n) = refl
 
 -- ---- for which fault each command is refused
-module _ (flags : Flags) (name other text more : List ℕ) (n : ℕ) (f : Fault) where
+module _ (flags : Flags) (form : ReplyForm) (name other text more : List ℕ) (n : ℕ) (f : Fault) where
   abbrev Same : Type 0 → Type 0 → Type 0
   Same A B = (A → B) × (B → A)
 
@@ -241,10 +242,10 @@ module _ (flags : Flags) (name other text more : List ℕ) (n : ℕ) (f : Fault)
       × Same (Refuses (check name) (text ∷ []) f) (IsRefusedSource text f) × Same (Refuses (prove name) (text ∷ []) f) (IsRefusedSource text f)
   sources = (((λ h. h), λ h. h), ((λ h. h), λ h. h), ((λ h. h), λ h. h), ((λ h. h), λ h. h))
 
-  runs : Same (Refuses (run flags name) (text ∷ []) f) (IsRefusedRun text f)
+  runs : Same (Refuses (run flags form name) (text ∷ []) f) (IsRefusedRun text f)
   runs = ((λ h. h), λ h. h)
 
-  targets : Same (Refuses (exec name) (text ∷ []) f) (IsRefusedTarget text f)
+  targets : Same (Refuses (exec form name) (text ∷ []) f) (IsRefusedTarget text f)
   targets = ((λ h. h), λ h. h)
 
   steps : Same (Refuses (verify name other) (text ∷ more ∷ []) f) (IsUnverified text more f)
@@ -287,8 +288,8 @@ module _ (how : Linearity) (program : List RawItemTree) (source typed : TypedTre
       × ((x : TypedTree) × (checked Three how program ≡ Ok x) × IsFormOf how x typed → IsTypedBy Three how program typed)
   typed-of_three = ((λ h. h), λ h. h)
 
-forms-told : (form_fault (form.Cases 2 1025) ≡ fault.Choose 2 (Limit Cases 1025)) × (form_fault (form.Weight 3 1000001) ≡ fault.Rule (rule.Weight 1000001))
-    × (form_fault (form.Depth 3 201) ≡ fault.Rule (rule.Depth 201)) × (form_fault form.NoMemory ≡ fault.NoMemory)
+forms-told : (form_fault (form.Cases 2 1025) ≡ fault.Choose 2 (Limit Cases 1025)) × (form_fault (form.Weight 3 1000001) ≡ fault.Weight 3 1000001)
+    × (form_fault (form.Depth 3 201) ≡ fault.Depth 3 201) × (form_fault form.NoMemory ≡ fault.NoMemory)
 forms-told = (refl, refl, refl, refl)
 
 -- ---- the edition of a source is that of its header

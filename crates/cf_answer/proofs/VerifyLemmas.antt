@@ -19,12 +19,13 @@ use Rattle.cf_answer.specs.Refusals.{too_long, IsBrokenSource, IsRefusedSteps, I
 use Rattle.cf_answer.specs.Statuses.{status_of}
 use Rattle.cf_answer.specs.Sources.{IsTypedSource}
 use Rattle.cf_answer.specs.declared.source.ToldProgram.{ToldProgram}
+use Rattle.cf_answer.specs.Written.{IsOfText}
 use Rattle.cf_answer.specs.Verifying.{edition_in, IsToldProgram, AreMisspelled, AreReadFrom, IsFetched, NoneFailed, IsSourceFault, file_failed, broken_file, no_room}
 use Rattle.cf_answer.specs.declared.fault.Fault.{Fault}
 use Rattle.cf_answer.specs.declared.fault.Fault.TheVariants as fault
 use Rattle.cf_answer.specs.declared.fault.StepsFault.TheVariants as steps_fault
 use Rattle.cf_answer.specs.declared.status.Status.{Status}
-use Rattle.cf_answer.specs.declared.status.Status.TheVariants.{File}
+use Rattle.cf_answer.specs.declared.status.Status.TheVariants.{File, NoMemory}
 use Rattle.cf_program.specs.Checked.{TypedTree}
 use Rattle.cf_tree.specs.ChooseTree.{ChooseTree}
 use Rattle.cf_cases.specs.Holding.{EachOf}
@@ -247,6 +248,10 @@ source_usage name before after f (broken_file (text, told, broken) same) e =
     let this : f ≡ fault.Usage = cc in subst IsTextFault this (broken_text text f broken)
 source_usage name before after f (no_room is same) e = cc
 
+pub source_unusual : (text : List ℕ) (f : Fault) → IsBrokenSource text f ⊎ (f ≡ fault.NoMemory) → failed f ≡ Err fault.Usage → ⊥
+source_unusual text f (inl broken) e = let this : f ≡ fault.Usage = cc in subst IsTextFault this (broken_text text f broken)
+source_unusual text f (inr memory) e = cc
+
 source_rose : (name : List ℕ) (before after : ShelfSeen) (f : Fault) → IsSourceFault name before after f → failed f ≡ Err fault.File →
     Rose (before.faults name) (after.faults name)
 source_rose name before after f (file_failed is rose) e = rose
@@ -267,6 +272,19 @@ pub steps_in_order : (file steps : List ℕ) (before mid after : ShelfSeen) (l :
     (status ≡ File → Rose (mid.faults steps) (after.faults steps)) → AreFetched file steps before after status
 steps_in_order file steps before mid after l status first (text, told, s) same rose =
     steps_too text s.lowered.typed told s.lowered.is (λ is. subst (λ n. Rose n (after.faults steps)) (same steps) (rose is))
+
+-- where memory ran out for the message about the source
+memory_in_order : (file steps : List ℕ) (before after : ShelfSeen) (status : Status) → AreFetched file steps before after status →
+    AreFetched file steps before after NoMemory
+memory_in_order file steps before after status (source_alone once rose) = source_alone once (λ e. cc)
+memory_in_order file steps before after status (steps_too source typed told is rose) = steps_too source typed told is (λ e. cc)
+
+pub ended_in_order : (file steps : List ℕ) (before after : ShelfSeen) (answer new : Result (Unit {0}) Fault) →
+    (new ≡ answer) ⊎ ((new ≡ Err fault.NoMemory) × IsOfText answer) → AreFetched file steps before after (status_of answer) →
+    AreFetched file steps before after (status_of new)
+ended_in_order file steps before after answer new (inl same) h = subst (λ a. AreFetched file steps before after (status_of a)) (sym same) h
+ended_in_order file steps before after answer new (inr (is, t)) h =
+    subst (λ a. AreFetched file steps before after (status_of a)) (sym is) (memory_in_order file steps before after (status_of answer) h)
 
 -- ---- the text of a steps file, against the chooses of a source
 pub steps_refused : (source steps : List ℕ) (p : ToldProgram) (f : Fault) → IsToldProgram source p →

@@ -9,6 +9,7 @@ use Rattle.cf_build.specs.Chooses.{limit_of}
 use Rattle.cf_eval.specs.Seen.{plains}
 use Rattle.cf_eval.specs.Texts.{value_text, values_text}
 use Rattle.cf_form.specs.Told.{ToldChoose}
+use Rattle.cf_linear.specs.Reasons.{refusal_text}
 use Rattle.cf_warn.specs.Questions.{parameters}
 use Rattle.cf_warn.specs.Covers.{IsCover}
 use Rattle.cf_warn.specs.Verdicts.{IsExistence, IsUniqueness}
@@ -20,7 +21,6 @@ use Rattle.cf_warn.specs.declared.answer.UniquenessAnswer.{UniquenessAnswer}
 use Rattle.cf_warn.specs.declared.answer.UniquenessAnswer.TheVariants as uniqueness
 use Rattle.cf_warn.specs.declared.coverage.Cover.{Cover}
 use Rattle.cf_warn.specs.declared.coverage.Cover.TheVariants as cover
-use Rattle.cf_late.specs.Texts.{refusal_text}
 use Rattle.cf_answer.specs.Texts.{numbered_line}
 use Rattle.cf_answer.specs.ToldChecks.{Asked, named_levels, told_of, is_later_branch, IsToldExistence, IsToldUniqueness}
 

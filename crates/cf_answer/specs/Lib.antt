@@ -21,3 +21,4 @@ pub mod Texts
 pub mod ToldChecks
 pub mod Verifying
 pub mod Workloads
+pub mod Written

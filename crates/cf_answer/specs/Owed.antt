@@ -109,10 +109,10 @@ sum_line count sum = concat (codes "lines " ∷ decimal count ∷ codes " sum " 
 abbrev pub Owes : Command → List (List ℕ) → List Told → List Told → List (List ℕ) → List ℕ → Type 0
 Owes (compile flags name) (file ∷ []) given last ls text =
     (t : RawTarget) × IsCompiledBy (not flags.plain) file given last t × IsPrinted (edition_of file) t text
-Owes (run flags name) (file ∷ []) given last ls text = OwesRun (not flags.plain) file given last ls text
+Owes (run flags form name) (file ∷ []) given last ls text = OwesRun (not flags.plain) file given last ls text
 Owes (pre name) (file ∷ []) given last ls text = (cs : List (ChooseTree × Branch)) × AreBranched file cs × ArePres cs text
 Owes (check name) (file ∷ []) given last ls text = AreSourceChecks file text
-Owes (exec name) (file ∷ []) given last ls text = (t : RawTarget) × IsTypedTarget file (target_tree t) × AreReplies (by_target t) ls text
+Owes (exec form name) (file ∷ []) given last ls text = (t : RawTarget) × IsTypedTarget file (target_tree t) × AreReplies (by_target t) ls text
 Owes (prove name) (file ∷ []) given last ls text = (cs : List (ChooseTree × Branch)) × AreBranched file cs × AreProofs (edition_of file) cs text
 Owes (verify name steps_name) (source ∷ steps ∷ []) given last ls text =
     (cs : List (ChooseTree × Branch)) × AreBranched source cs × AreVerified (edition_of source) cs steps

@@ -18,7 +18,7 @@ use Rattle.cf_program.specs.Checked.{TypedTree, checked}
 use Rattle.cf_program.specs.declared.linearity.Linearity.{Linearity}
 use Rattle.cf_program.specs.declared.linearity.Linearity.TheVariants.{Plain, Late}
 use Rattle.cf_program.specs.declared.fault.TypeFault.{TypeFault}
-use Rattle.cf_program.specs.declared.fault.TypeFault.TheVariants.{NotLinear, Weight, Depth}
+use Rattle.cf_program.specs.declared.fault.TypeFault.TheVariants.{NotLinear}
 use Rattle.cf_form.specs.FormAnswers.{IsUnformed}
 use Rattle.cf_form.specs.declared.fault.FormFault.{FormFault}
 use Rattle.cf_form.specs.declared.fault.FormFault.TheVariants as form
@@ -68,8 +68,8 @@ fault_of build.NoMemory = fault.NoMemory
 -- the fault for which the forms of a source are not those of language 2
 abbrev pub form_fault : FormFault → Fault
 form_fault (form.Cases n count) = fault.Choose n (Limit Cases count)
-form_fault (form.Weight f weight) = fault.Rule (Weight weight)
-form_fault (form.Depth f depth) = fault.Rule (Depth depth)
+form_fault (form.Weight f weight) = fault.Weight f weight
+form_fault (form.Depth f depth) = fault.Depth f depth
 form_fault form.NoMemory = fault.NoMemory
 
 -- for which faults a program is refused by its rules: the first that is broken; of edition 3 also, where none is, the first limit that its forms pass
@@ -134,10 +134,10 @@ pub data IsUnverified (source steps : List ℕ) : Fault → Type 0 where
 -- the fault for which a command is refused on files of these texts, or on a source of its own
 abbrev pub Refuses : Command → List (List ℕ) → Fault → Type 0
 Refuses (compile flags name) (text ∷ []) f = IsRefusedSource text f
-Refuses (run flags name) (text ∷ []) f = IsRefusedRun text f
+Refuses (run flags form name) (text ∷ []) f = IsRefusedRun text f
 Refuses (pre name) (text ∷ []) f = IsRefusedSource text f
 Refuses (check name) (text ∷ []) f = IsRefusedSource text f
-Refuses (exec name) (text ∷ []) f = IsRefusedTarget text f
+Refuses (exec form name) (text ∷ []) f = IsRefusedTarget text f
 Refuses (prove name) (text ∷ []) f = IsRefusedSource text f
 Refuses (verify name steps_name) (source ∷ steps ∷ []) f = IsUnverified source steps f
 Refuses (gen n) [] f = IsRefusedSource (gen_source n) f

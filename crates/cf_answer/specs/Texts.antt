@@ -3,9 +3,9 @@ use Rattle.std.specs.Prelude.{ℕ, List, [], ◌∷◌, codes, decimal, Result, 
 use Rattle.std.specs.List.{concat}
 use Rattle.cf_tree.specs.declared.base.Place.{Place}
 use Rattle.cf_linear.specs.declared.refusal.Refusal.{Refusal}
+use Rattle.cf_linear.specs.Reasons.{refusal_text}
 use Rattle.cf_program.specs.declared.fault.TypeFault.{TypeFault}
 use Rattle.cf_program.specs.declared.fault.TypeFault.TheVariants as rule
-use Rattle.cf_late.specs.Texts.{refusal_text}
 use Rattle.cf_cert.specs.declared.verdict.Why.{Why}
 use Rattle.cf_cert.specs.declared.verdict.Why.TheVariants as why
 use Rattle.cf_answer.specs.declared.fault.Fault.{Fault}
@@ -89,6 +89,8 @@ fault_line (fault.NumberPast p) = place_line p (codes "number past limit")
 fault_line (fault.Syntax p) = place_line p (codes "syntax")
 fault_line (fault.Rule e) = rule_line e
 fault_line (fault.Choose n r) = choose_line n r
+fault_line (fault.Weight f w) = count_line (codes "Weight") w
+fault_line (fault.Depth f d) = count_line (codes "Depth") d
 fault_line fault.BadTarget = words_line (codes "target not well typed")
 fault_line (fault.Steps e) = steps_line e
 fault_line (fault.Rejected n i j w) = rejected_line n i j w

@@ -3,11 +3,11 @@ use Rattle.std.specs.Prelude.{ℕ, pos, int_lt, ◌≡◌, ◌==◌, Bool, false
 use Rattle.std.specs.List.{range_with_len}
 use Rattle.cf_tree.specs.declared.base.Base.{Base}
 use Rattle.cf_tree.specs.declared.base.Base.TheVariants.{Int, Bool as Truth, Set}
+use Rattle.cf_tree.specs.Occurs.{rel_holds}
 use Rattle.cf_tree.specs.RelTree.{RelTree, rel_or, rel_not}
 use Rattle.cf_tree.specs.Values.{Value, number, truth, elements, number_of}
 use Rattle.cf_linear.specs.declared.refusal.Refusal.{Refusal}
 use Rattle.cf_linear.specs.Chooses.{limit}
-use Rattle.cf_linear.specs.Layout.{rel_holds}
 use Rattle.cf_eval.specs.Seen.{plains}
 use Rattle.cf_form.specs.Branches.{Branch, is_among, values_in}
 use Rattle.cf_form.specs.Told.{ToldBranch, ToldChoose}

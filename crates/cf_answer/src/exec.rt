@@ -2,6 +2,7 @@
 ghost use Rattle.std.specs.Prelude.{◌≡◌, ◌≤◌, ◌<◌, ◌-◌, ◌^◌, ◌∷◌, [], List, ℕ, length};
 ghost use Rattle.cf_pass.specs.Passes.{Told};
 ghost use Rattle.cf_words.specs.Commands.{exec as the_exec};
+ghost use Rattle.cf_words.specs.declared.command.ReplyForm.{ReplyForm};
 ghost use Rattle.cf_answer.specs.Ends.{AnswersOn};
 ghost use Rattle.cf_answer.specs.Outside.{streams};
 ghost use Rattle.cf_answer.specs.Statuses.{status_of as the_status_of, IsEarly};
@@ -63,7 +64,7 @@ pub fn run_target<I: Source, O: Sink>(
     out: &mut O,
 ) -> Result<(), Fault>
     requires place { length text.now < 2 ^ 32 - 1 }
-    ensures answers { (file : List ℕ) (given : List Told) → AnswersOn (the_exec file) given given (text.now ∷ [])
+    ensures answers { (form : ReplyForm) (file : List ℕ) (given : List Told) → AnswersOn (the_exec form file) given given (text.now ∷ [])
         (streams (I.seen input.old) (O.seen out.old)) (streams (I.seen input.new) (O.seen out.new)) result }
     ensures unread { IsEarly (the_status_of result) → input.new ≡ input.old }
     ensures unwritten { IsEarly (the_status_of result) → out.new ≡ out.old }

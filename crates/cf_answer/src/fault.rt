@@ -33,6 +33,16 @@ pub enum Fault {
         number: u32,
         refusal: Refusal,
     },
+    /// The weight of a function of edition 3, whose forms are those of language 2, passes the limit.
+    Weight {
+        function: u32,
+        weight: u64,
+    },
+    /// The same of its depth.
+    Depth {
+        function: u32,
+        depth: u64,
+    },
     /// The target that the file spells is not well typed.
     BadTarget,
     /// The text of the steps file is refused.
@@ -94,11 +104,8 @@ impl From<FormFault> for Fault {
                     number: count,
                 },
             },
-            FormFault::Weight {
-                function: _,
-                weight,
-            } => Fault::Rule(TypeFault::Weight(weight)),
-            FormFault::Depth { function: _, depth } => Fault::Rule(TypeFault::Depth(depth)),
+            FormFault::Weight { function, weight } => Fault::Weight { function, weight },
+            FormFault::Depth { function, depth } => Fault::Depth { function, depth },
             FormFault::NoMemory => Fault::NoMemory,
         }
     }

@@ -1,10 +1,10 @@
 //! Why steps are rejected, in words.
 ghost use Rattle.std.specs.Prelude.{◌≡◌};
-ghost use Rattle.cf_late.specs.Texts.{reason_text};
+ghost use Rattle.cf_linear.specs.Reasons.{reason_text};
 ghost use Rattle.cf_answer.specs.Texts.{why_text};
 
 use cf_cert::Why;
-use cf_late::{Reason, in_words, refusal_reason};
+use cf_linear::{Reason, in_words, refusal_reason};
 use itoa::Buffer;
 
 /// Why steps are rejected; `count` takes the number of a limit.

@@ -1,6 +1,7 @@
 //! `run`: the replies of a source to the lines of the input.
 ghost use Rattle.std.specs.Prelude.{◌≡◌, ◌≤◌, ◌<◌, ◌-◌, ◌^◌, ◌∷◌, [], List, ℕ, not, length, map, OnErr};
 ghost use Rattle.cf_words.specs.Commands.{run as the_run};
+ghost use Rattle.cf_words.specs.declared.command.ReplyForm.{ReplyForm};
 ghost use Rattle.cf_answer.specs.Ends.{AnswersOn};
 ghost use Rattle.cf_answer.specs.Limits.{text_limit};
 ghost use Rattle.cf_answer.specs.Outside.{streams};
@@ -50,8 +51,8 @@ pub fn run_source<I: Source, O: Sink>(
 ) -> Result<(), Fault>
     requires short { length text.now ≤ text_limit }
     requires place { length text.now < 2 ^ 32 - 1 }
-    ensures answers { (file : List ℕ) →
-        AnswersOn (the_run flags file) (map (λ p. told p) passes.old.items) (map (λ p. told p) passes.new.items) (text.now ∷ [])
+    ensures answers { (form : ReplyForm) (file : List ℕ) →
+        AnswersOn (the_run flags form file) (map (λ p. told p) passes.old.items) (map (λ p. told p) passes.new.items) (text.now ∷ [])
         (streams (I.seen input.old) (O.seen out.old)) (streams (I.seen input.new) (O.seen out.new)) result }
     ensures unread { IsEarly (the_status_of result) → input.new ≡ input.old }
     ensures unwritten { IsEarly (the_status_of result) → out.new ≡ out.old }

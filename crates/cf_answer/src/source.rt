@@ -42,8 +42,8 @@ pub fn read_source(alloc: Global, text: &[u8]) -> Result<Typed, Fault>
     typed(alloc, edition, &program)
 }
 
-// The tree that a source text spells, whatever rules it breaks.
-fn parsed(alloc: Global, edition: Edition, text: &[u8]) -> Result<Program, Fault>
+/// The tree that a source text spells, whatever rules it breaks.
+pub(crate) fn parsed(alloc: Global, edition: Edition, text: &[u8]) -> Result<Program, Fault>
     requires short { length text.now ≤ text_limit }
     requires place { length text.now < 2 ^ 32 - 1 }
     requires edition { edition ≡ the_edition_of text.now }

@@ -99,6 +99,8 @@ fn fault_status(fault: &Fault) -> Status
         Fault::Syntax(_) => Status::Text,
         Fault::Rule(fault) => rule_status(fault),
         Fault::Choose { refusal, .. } => refusal_status(refusal),
+        Fault::Weight { .. } => Status::Limit,
+        Fault::Depth { .. } => Status::Limit,
         Fault::BadTarget => Status::Types,
         Fault::Steps(_) => Status::Text,
         Fault::Rejected { .. } => Status::Rejected,

@@ -6,13 +6,14 @@ ghost use Rattle.cf_io.specs.Causes.{one_more};
 ghost use Rattle.cf_answer.specs.Lines.{line_text, Puts};
 ghost use Rattle.cf_answer.specs.Texts.{place_line, place_line_behind, count_line, choose_line, rule_line};
 ghost use Rattle.cf_answer.specs.Texts.{steps_line, rejected_line, fault_line, answer_line};
+ghost use Rattle.cf_answer.specs.Written.{line_of};
 
+use crate::ended::Ended;
 use crate::fault::{Fault, StepsFault};
 use crate::reason::rejection_reason;
 use cf_cert::Why;
 use cf_io::{Failed, Sink, write_all};
-use cf_late::refusal_reason;
-use cf_linear::Refusal;
+use cf_linear::{Refusal, refusal_reason};
 use cf_program::TypeFault;
 use cf_tree::Place;
 use itoa::Buffer;
@@ -53,6 +54,24 @@ fn at_place(place: &Place, words: &'static [u8]) -> Line<'static>
     }
 }
 
+fn weight_line(weight: u64) -> Line<'static>
+    ensures { line_text result ≡ count_line (codes "Weight") weight }
+{
+    Line::Count {
+        name: b"Weight".as_slice(),
+        count: weight,
+    }
+}
+
+fn depth_line(depth: u64) -> Line<'static>
+    ensures { line_text result ≡ count_line (codes "Depth") depth }
+{
+    Line::Count {
+        name: b"Depth".as_slice(),
+        count: depth,
+    }
+}
+
 fn rule_line(fault: &TypeFault) -> Line<'static>
     ensures { line_text result ≡ rule_line fault.now }
 {
@@ -67,14 +86,8 @@ fn rule_line(fault: &TypeFault) -> Line<'static>
         TypeFault::CallsLater(place) => at_place(place, b"calls later function".as_slice()),
         TypeFault::NoMain => Line::Words(b"no main".as_slice()),
         TypeFault::NotLinear(place) => at_place(place, b"not linear".as_slice()),
-        TypeFault::Weight(count) => Line::Count {
-            name: b"Weight".as_slice(),
-            count: *count,
-        },
-        TypeFault::Depth(count) => Line::Count {
-            name: b"Depth".as_slice(),
-            count: *count,
-        },
+        TypeFault::Weight(count) => weight_line(*count),
+        TypeFault::Depth(count) => depth_line(*count),
         TypeFault::NoMemory => Line::Words(b"no memory".as_slice()),
     }
 }
@@ -118,6 +131,8 @@ fn fault_line(fault: &Fault) -> Line<'static>
             number: *number,
             refusal: *refusal,
         },
+        Fault::Weight { weight, .. } => weight_line(*weight),
+        Fault::Depth { depth, .. } => depth_line(*depth),
         Fault::BadTarget => Line::Words(b"target not well typed".as_slice()),
         Fault::Steps(fault) => steps_line(fault),
         Fault::Rejected {
@@ -255,15 +270,26 @@ fn put_line<E: Sink>(err: &mut E, line: &Line<'_>) -> Result<(), Failed>
     }
 }
 
-/// Writes the line of a fault, and nothing where there is none; or the sink failed.
-pub fn tell<E: Sink>(err: &mut E, answer: &Result<(), Fault>) -> Result<(), Failed>
-    ensures all { OnOk result (Appends (E.seen err.old).held (E.seen err.new).held (answer_line answer.now)) }
-    ensures prefix { TookPrefix (E.seen err.old).held (E.seen err.new).held (answer_line answer.now) }
+// Writes the line of a fault, and nothing where there is none.
+fn put_answer<E: Sink>(err: &mut E, answer: &Result<(), Fault>) -> Result<(), Failed>
+    ensures { Puts (answer_line answer.now) (E.seen err.old) (E.seen err.new) result }
+{
+    match answer {
+        Ok(()) => put_pieces(err, &[]),
+        Err(fault) => put_line(err, &fault_line(fault)),
+    }
+}
+
+/// Writes the message about a refused source, or the line of a fault, and nothing where there is none;
+/// or the sink failed.
+pub fn tell<E: Sink>(err: &mut E, ended: &Ended) -> Result<(), Failed>
+    ensures all { OnOk result (Appends (E.seen err.old).held (E.seen err.new).held (line_of ended.now)) }
+    ensures prefix { TookPrefix (E.seen err.old).held (E.seen err.new).held (line_of ended.now) }
     ensures failed { OnErr result ((E.seen err.new).faults ≡ one_more (E.seen err.old).faults) }
     ensures same { OnOk result ((E.seen err.new).faults ≡ (E.seen err.old).faults) }
 {
-    match answer {
-        Ok(()) => Ok(()),
-        Err(fault) => put_line(err, &fault_line(fault)),
+    match &ended.message {
+        Some(message) => put_pieces(err, &[&message.bytes]),
+        None => put_answer(err, &ended.answer),
     }
 }

@@ -23,9 +23,9 @@ use cf_eval::Value;
 use cf_form::{Branch, ChooseInfo, TruthAt};
 use cf_set::Set;
 use cf_setwit::push_if;
-use cf_tree::{Base, NoMemory, Rel, to_u32, without};
+use cf_tree::{Base, NoMemory, Rel, rel_holds, to_u32, without};
 use cf_warn::{
-    Doubt, ExistenceAnswer, UniquenessAnswer, existence, is_over, parameters, rel_holds, uniqueness,
+    Doubt, ExistenceAnswer, UniquenessAnswer, existence, is_over, parameters, uniqueness,
 };
 use std::alloc::Global;
 

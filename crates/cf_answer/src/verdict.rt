@@ -1,13 +1,12 @@
 //! The texts of verdicts.
 ghost use Rattle.std.specs.Prelude.{◌≡◌, [], ◌++◌, get_or, OnOk};
 ghost use Rattle.cf_tree.specs.Params.{names_of};
+ghost use Rattle.cf_linear.specs.Reasons.{refusal_text};
 ghost use Rattle.cf_eval.specs.Seen.{plain, plains};
-ghost use Rattle.cf_late.specs.Texts.{refusal_text};
 ghost use Rattle.cf_answer.specs.Checks.{cover_text, doubt_text, existence_text, names_at, sample_text, setting_text, uniqueness_text};
 
 use cf_eval::{Value, put_value, put_values};
-use cf_late::refusal_reason;
-use cf_linear::Refusal;
+use cf_linear::{Refusal, refusal_reason};
 use cf_tree::{NoMemory, Param, put_number};
 use cf_warn::{Cover, Doubt, ExistenceAnswer, UniquenessAnswer};
 use itoa::Buffer;

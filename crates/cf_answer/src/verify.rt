@@ -1,6 +1,6 @@
 //! Checking the steps of a file against a source.
-ghost use Rattle.std.specs.Prelude.{◌≡◌, ◌≤◌, ◌<◌, ◌-◌, ◌^◌, ◌∷◌, [], List, ℕ, length, map, flat_map, IfOk, IfErr, OnOk, IsErrOf};
-ghost use Rattle.cf_io.specs.Seen.{SourceSeen};
+ghost use Rattle.std.specs.Prelude.{◌≡◌, ◌⊎◌, ◌≤◌, ◌<◌, ◌+◌, ◌-◌, ◌^◌, ◌∷◌, [], List, ℕ, Some, length, map, flat_map, IfOk, IsErrOf};
+ghost use Rattle.cf_io.specs.Seen.{ShelfSeen, SourceSeen};
 ghost use Rattle.cf_tree.specs.ChooseView.{choose_tree};
 ghost use Rattle.cf_pass.specs.Passes.{Told};
 ghost use Rattle.cf_words.specs.Commands.{verify as the_verify};
@@ -15,19 +15,25 @@ ghost use Rattle.cf_cert.specs.Verifying.{HaveFewSteps};
 ghost use Rattle.cf_form.specs.ToldView.{told_choose};
 ghost use Rattle.cf_steps.specs.Blocks.{block_tree, block_trees};
 ghost use Rattle.cf_answer.specs.Branches.{in_branches, wrong_head as wrong_head_of, IsVerdictIn};
-ghost use Rattle.cf_answer.specs.Verifying.{edition_in, IsFetched, IsSourceFault, IsToldProgram};
+ghost use Rattle.cf_answer.specs.Refusals.{IsBrokenSource};
+ghost use Rattle.cf_answer.specs.Steps.{IsVerdict};
+ghost use Rattle.cf_answer.specs.Verifying.{edition_in, IsFetched, IsToldProgram, NoneFailed};
+ghost use Rattle.cf_answer.specs.Written.{IsWrittenBy, front_of, line_of};
 
 use crate::branches::{Coming, is_head};
 use crate::choose_line::put_line;
+use crate::ended::Ended;
 use crate::fault::{Fault, StepsFault};
 use crate::limits::{longest_target, longest_text};
+use crate::saying::NamedSource;
 use crate::source::{ToldProgram, read_told};
 use crate::steps::read_steps;
 use crate::write::write_text;
 use cf_build::numbered;
 use cf_cert::{Verdict, Why, verify};
 use cf_form::ChooseInfo;
-use cf_io::{ReadFault, Shelf, Sink, read_text};
+use cf_io::{FetchFault, ReadFault, Shelf, Sink, read_front, read_text};
+use cf_program::Linearity;
 use cf_steps::{Block, Blocks};
 use cf_tree::{Choose, NoMemory};
 use std::alloc::Global;
@@ -121,18 +127,42 @@ fn verify_text<O: Sink>(
     }
 }
 
-// Reads a source, and answers its program with its matches taken apart, or why the file failed or its
-// text is refused.
-fn fetch_program<F: Shelf>(alloc: Global, shelf: &mut F, file: &str) -> Result<ToldProgram, Fault>
-    ensures fetched { IsFetched text_limit file.now (F.seen shelf.old) (F.seen shelf.new) }
-    ensures asked { IfOk result (λ p. (text : List ℕ) × AreTold ((F.seen shelf.old).texts file.now) text × IsToldProgram text p) }
-    ensures same { OnOk result ((other : List ℕ) → (F.seen shelf.new).faults other ≡ (F.seen shelf.old).faults other) }
-    ensures fault { IfErr result (IsSourceFault file.now (F.seen shelf.old) (F.seen shelf.new)) }
+// The program of a source text as far as it was read, with its matches taken apart, or why the text is
+// refused.
+fn read_program(alloc: Global, front: &[u8]) -> Result<ToldProgram, Fault>
+    requires { length front.now ≤ text_limit + 1 }
+    ensures verdict { (whole : List ℕ) → front.now ≡ front_of whole → IsVerdict (IsToldProgram whole) (IsBrokenSource whole) result }
+    ensures short { (IsErrOf result Fault.TextTooLong) ⊎ (length front.now ≤ text_limit) }
 {
-    match read_text(alloc, shelf, file, longest_text()) {
-        Ok(text) => read_told(alloc, &text),
+    if front.len() > longest_text() {
+        return Err(Fault::TextTooLong);
+    }
+    read_told(alloc, front)
+}
+
+// Checks the steps in a file against a source text as far as it was read.
+fn verify_front<F: Shelf, O: Sink>(
+    alloc: Global,
+    front: &[u8],
+    steps: &str,
+    shelf: &mut F,
+    out: &mut O,
+) -> Result<(), Fault>
+    requires { length front.now ≤ text_limit + 1 }
+    ensures does { (file whole : List ℕ) (before : ShelfSeen) → IsFetched text_limit file before (F.seen shelf.old) → NoneFailed before (F.seen shelf.old) →
+        AreTold (before.texts file) whole → front.now ≡ front_of whole → (given : List Told) (input : SourceSeen) →
+        Does (the_verify file steps.now) given given (outside before input (O.seen out.old)) (outside (F.seen shelf.new) input (O.seen out.new)) result }
+    ensures usage { ¬ IsErrOf result Fault.Usage }
+    ensures short { (IsErrOf result Fault.TextTooLong) ⊎ (length front.now ≤ text_limit) }
+    ensures unwritten { IsEarly (the_status_of result) → out.new ≡ out.old }
+    ensures order { (file whole : List ℕ) (before : ShelfSeen) → IsFetched text_limit file before (F.seen shelf.old) → NoneFailed before (F.seen shelf.old) →
+        AreTold (before.texts file) whole → front.now ≡ front_of whole → IsInOrder (the_verify file steps.now) before (F.seen shelf.new) (the_status_of result) }
+{
+    let program = read_program(alloc, front)?;
+    match read_text(alloc, shelf, steps, longest_target(program.edition())) {
+        Ok(text) => verify_text(alloc, &program, &text, out),
         Err(ReadFault::Failed) => Err(Fault::File),
-        Err(ReadFault::TooLong) => Err(Fault::TextTooLong),
+        Err(ReadFault::TooLong) => Err(Fault::Steps(StepsFault::TooLong)),
         Err(ReadFault::NoMemory) => Err(Fault::NoMemory),
     }
 }
@@ -149,19 +179,26 @@ pub fn verify_files<F: Shelf, O: Sink>(
     steps: &str,
     shelf: &mut F,
     out: &mut O,
-) -> Result<(), Fault>
+) -> Ended
     ensures does { (given : List Told) (input : SourceSeen) → Does (the_verify file.now steps.now) given given
-        (outside (F.seen shelf.old) input (O.seen out.old)) (outside (F.seen shelf.new) input (O.seen out.new)) result }
-    ensures usage { ¬ IsErrOf result Fault.Usage }
-    ensures unwritten { IsEarly (the_status_of result) → out.new ≡ out.old }
+        (outside (F.seen shelf.old) input (O.seen out.old)) (outside (F.seen shelf.new) input (O.seen out.new)) result.answer }
+    ensures written { IsWrittenBy (Some (the_verify file.now steps.now)) (F.seen shelf.old).texts result.answer (line_of result) }
+    ensures usage { ¬ IsErrOf result.answer Fault.Usage }
+    ensures unwritten { IsEarly (the_status_of result.answer) → out.new ≡ out.old }
     // The steps file is read only behind a source in which no rule is broken.
-    ensures order { IsInOrder (the_verify file.now steps.now) (F.seen shelf.old) (F.seen shelf.new) (the_status_of result) }
+    ensures order { IsInOrder (the_verify file.now steps.now) (F.seen shelf.old) (F.seen shelf.new) (the_status_of result.answer) }
 {
-    let program = fetch_program(alloc, shelf, file)?;
-    match read_text(alloc, shelf, steps, longest_target(program.edition())) {
-        Ok(text) => verify_text(alloc, &program, &text, out),
-        Err(ReadFault::Failed) => Err(Fault::File),
-        Err(ReadFault::TooLong) => Err(Fault::Steps(StepsFault::TooLong)),
-        Err(ReadFault::NoMemory) => Err(Fault::NoMemory),
+    match read_front(alloc, shelf, file, longest_text() + 1) {
+        Ok(front) => {
+            let answer = verify_front(alloc, &front, steps, shelf, out);
+            let source = NamedSource {
+                name: file.as_bytes(),
+                text: &front,
+                how: Linearity::Plain,
+            };
+            Ended::on_source(alloc, &source, answer)
+        }
+        Err(FetchFault::Failed) => Ended::plain(Err(Fault::File)),
+        Err(FetchFault::NoMemory) => Ended::plain(Err(Fault::NoMemory)),
     }
 }

@@ -5,11 +5,12 @@ use Rattle.std.specs.Prelude.{IsTrue, slice_get}
 use Rattle.std.proofs.lemmas.Bool.{cond_both, cases_lt, eq-eqb, eqb-true}
 use Rattle.cf_tree.specs.declared.base.Base.{Base}
 use Rattle.cf_tree.specs.declared.base.Base.TheVariants.{Int, Set}
+use Rattle.cf_tree.specs.Occurs.{set_holds, term_holds, rel_holds}
 use Rattle.cf_tree.specs.RelTree.{SetTree, empty_set, set_var, union_of, inter_of, diff_of, TermTree, term_lit, term_var, term_card, term_neg, term_add}
 use Rattle.cf_tree.specs.RelTree.{term_sub, term_mul, term_div, term_mod, term_abs, RelTree, rel_true, rel_false, rel_compare, rel_same_set, rel_other_set}
 use Rattle.cf_tree.specs.RelTree.{rel_subset, rel_divides, rel_and, rel_or, rel_not}
 use Rattle.cf_tree.specs.Relation.{IsLinear, IsTypedSet, IsTypedTerm, IsTyped}
-use Rattle.cf_linear.specs.Layout.{set_holds, term_holds, rel_holds, is_number, is_set, levels_with, layout_of, has_level}
+use Rattle.cf_linear.specs.Layout.{is_number, is_set, levels_with, layout_of, has_level}
 use Rattle.cf_linear.specs.Written.{IsPlaced, IsPlacedSet}
 use Rattle.cf_linear.proofs.BoolLemmas.{on_bool}
 use Rattle.cf_linear.proofs.PassingLemmas.{or_left, or_right}
@@ -18,13 +19,13 @@ use Rattle.cf_cases.specs.Holding.{IsPlacedRel}
 same_level : (x : ℕ) → (x == x) ≡ true
 same_level x = eq-eqb x x refl
 
-filter_has : (q : ℕ → Bool) (xs : List ℕ) (x : ℕ) → has_level xs x ≡ true → q x ≡ true → has_level (filter q xs) x ≡ true
-filter_has q [] x h k = h
-filter_has q (y ∷ ys) x h k = on_bool (y == x)
+pub has_filtered : (q : ℕ → Bool) (xs : List ℕ) (x : ℕ) → has_level xs x ≡ true → q x ≡ true → has_level (filter q xs) x ≡ true
+has_filtered q [] x h k = h
+has_filtered q (y ∷ ys) x h k = on_bool (y == x)
     (λ e. let i : q y ≡ true = ap q (eqb-true y x e) ∙ k in rw (i, e) refl)
     (λ e. let g : has_level ys x ≡ true = rw e at h in
-    cond_both (q y) (y ∷ filter q ys) (filter q ys) (λ (l : List ℕ). has_level l x ≡ true) (λ i. rw (e, filter_has q ys x g k) refl)
-    (λ i. filter_has q ys x g k))
+    cond_both (q y) (y ∷ filter q ys) (filter q ys) (λ (l : List ℕ). has_level l x ≡ true) (λ i. rw (e, has_filtered q ys x g k) refl)
+    (λ i. has_filtered q ys x g k))
 
 levels_have : (p : Base → Bool) (n : ℕ) (bs : List Base) (i : ℕ) (b : Base) → slice_get bs i ≡ Some b → p b ≡ true →
     has_level (levels_with p n bs) (n + i) ≡ true
@@ -61,7 +62,7 @@ module _ (scope outputs : List Base) (rel : RelTree) where
     | inl i ↦ (let k : has_level (levels_with p 0 scope) (0 + x) ≡ true = levels_have p 0 scope x b (sym (before_outputs scope outputs x i) ∙ e) h in
         let z : 0 + x ≡ x = omega arith in
         or_left (has_level (filter (λ y. rel_holds y rel) (levels_with p 0 scope)) x) (has_level (levels_with p (length scope) outputs) x)
-        (filter_has (λ y. rel_holds y rel) (levels_with p 0 scope) x (rw z at k) r))
+        (has_filtered (λ y. rel_holds y rel) (levels_with p 0 scope) x (rw z at k) r))
     | inr i ↦ (let k = levels_have p (length scope) outputs (x - length scope) b (sym (after_scope scope outputs x i) ∙ e) h in
         let z : length scope + (x - length scope) ≡ x = omega arith in
         or_right (has_level (filter (λ y. rel_holds y rel) (levels_with p 0 scope)) x) (has_level (levels_with p (length scope) outputs) x) (rw z at k))

@@ -7,9 +7,10 @@ use Rattle.std.proofs.lemmas.Bool.{cond_both, eq-eqb, ne_eqb}
 use Rattle.std.proofs.lemmas.List.Elements.{All-head, All-tail}
 use Rattle.cf_tree.specs.declared.base.Base.{Base}
 use Rattle.cf_tree.specs.declared.base.Base.TheVariants.{Int, Bool as IsTruth, Set}
+use Rattle.cf_tree.specs.Occurs.{rel_holds}
 use Rattle.cf_tree.specs.RelTree.{RelTree}
 use Rattle.cf_linear.specs.Keep.{In}
-use Rattle.cf_linear.specs.Layout.{Layout, place, has_level, is_number, is_set, levels_with, layout_of, rel_holds, number_column, known_count, first_free}
+use Rattle.cf_linear.specs.Layout.{Layout, place, has_level, is_number, is_set, levels_with, layout_of, number_column, known_count, first_free}
 use Rattle.cf_linear.specs.Systems.{System, Sat}
 use Rattle.cf_linear.specs.Rows.{Values}
 use Rattle.cf_linear.specs.Cases.{Signed, no_rows, case_rows, system_of_case, negation_normal, disjuncts, first_systems}
@@ -20,7 +21,7 @@ use Rattle.cf_cases.proofs.FormedLaws.{In-range, range-In, case-next}
 use Rattle.cf_cases.proofs.SystemLaws.{case_from_system, cases-fit}
 use Rattle.cf_venn.specs.Laws.{AreOutputs}
 use Rattle.cf_venn.proofs.ColumnLaws.{place_within}
-use Rattle.cf_venn.proofs.LevelLaws.{Up, up_levels, up_filter, base_at, level_has, is_layout, outputs_count}
+use Rattle.cf_venn.proofs.LevelLaws.{Up, base_at, level_has, is_layout, outputs_count}
 use Rattle.cf_choose.specs.CaseArms.{AreInts}
 use Rattle.cf_choose.proofs.OnceLevels.{AreOnce}
 use Rattle.cf_choose.specs.ArmBuilders.{HasOutputs}
@@ -66,8 +67,7 @@ ints_filter scope q (x ∷ xs) h = cond_both (q x) (x ∷ filter q xs) (filter q
 
 module _ (scope outputs : List Base) (rel : RelTree) where
   pub numbers_once : AreOnce (layout_of scope outputs rel).numbers
-  numbers_once = once_up 0 (layout_of scope outputs rel).numbers
-      (up_filter (λ x. rel_holds x rel) 0 (levels_with is_number 0 scope) (up_levels is_number 0 scope))
+  numbers_once = once_up 0 (layout_of scope outputs rel).numbers (is_layout scope outputs rel).numbers_up
 
   pub number_levels : AreInts scope (layout_of scope outputs rel).numbers
   number_levels = ints_filter scope (λ x. rel_holds x rel) (levels_with is_number 0 scope)

@@ -11,19 +11,18 @@ use Rattle.cf_tree.specs.CodeTree.{code_var, code_card}
 use Rattle.cf_tree.specs.Meaning.{Got, got, none_at, outcome_of, path}
 use Rattle.cf_tree.specs.RelTree.{RelTree}
 use Rattle.cf_tree.specs.Sets.{IsRising}
-use Rattle.cf_tree.specs.Typing.{one}
 use Rattle.cf_tree.specs.Values.{Value, elements, elements_of, value_at, values, HaveBases}
 use Rattle.cf_tree.proofs.RisingLemmas.{rising_filter}
 use Rattle.cf_linear.specs.declared.refusal.TheConstants.{MOST_SETS}
 use Rattle.cf_linear.specs.Arm.{ArmBuilder, let_region, region_code}
 use Rattle.cf_linear.specs.Keep.{In}
-use Rattle.cf_linear.specs.Layout.{Layout, layout_of, is_set, levels_with, rel_holds, input_column}
+use Rattle.cf_linear.specs.Layout.{Layout, layout_of, is_set, input_column}
 use Rattle.cf_linear.proofs.BoolLemmas.{on_bool}
 use Rattle.cf_venn.specs.Codes.{HoldsInputs}
 use Rattle.cf_venn.specs.Forms.{InputsTyped}
 use Rattle.cf_venn.specs.Masks.{sets_at, mask, union_all, region}
 use Rattle.cf_venn.proofs.FormLaws.{region_codes_fit}
-use Rattle.cf_venn.proofs.LevelLaws.{base_at, level_at, has_unfiltered}
+use Rattle.cf_venn.proofs.LevelLaws.{base_at, is_layout}
 use Rattle.cf_venn.proofs.MaskLemmas.{rising_union_all}
 use Rattle.cf_venn.proofs.RegionCodes.{region_codes_mean}
 use Rattle.cf_choose.specs.ArmBuilders.{let_alone}
@@ -53,9 +52,7 @@ is_set_at (b ∷ bs) (suc i) h = is_set_at bs i h
 
 pub inputs_typed : (scope outputs : List Base) (rel : RelTree) (more : List Base) → InputsTyped (scope ++ more) (layout_of scope outputs rel)
 inputs_typed scope outputs rel more x h =
-    let k = level_at is_set 0 scope x (has_unfiltered (λ y. rel_holds y rel) (levels_with is_set 0 scope) x h) in
-    let z : x - 0 ≡ x = omega arith in
-    slice_get-more scope more x Set (is_set_at scope x (rw z at k.1))
+    slice_get-more scope more x Set (is_set_at scope x ((is_layout scope outputs rel).input_is x h))
 
 -- ---- codes
 values_got : (g : Got (List Value)) (vs : List Value) → outcome_of g ≡ values vs → g ≡ got vs

@@ -1,60 +1,14 @@
 //! The levels of the variables of a choose.
 ghost use Rattle.std.specs.Prelude.{◌≡◌, ◌+◌, ◌<◌, ◌^◌, length, filter, IfOk};
-ghost use Rattle.cf_tree.specs.RelView.{set_tree, term_tree, rel_tree};
-ghost use Rattle.cf_linear.specs.Layout.{set_holds, term_holds, rel_holds, is_number, is_set, levels_with, layout_of};
+ghost use Rattle.cf_tree.specs.Occurs.{rel_holds};
+ghost use Rattle.cf_tree.specs.RelView.{rel_tree};
+ghost use Rattle.cf_linear.specs.Layout.{is_number, is_set, levels_with, layout_of};
 ghost use Rattle.cf_linear.specs.Views.{plain_layout};
 
 use cf_linear::Layout;
 use cf_setwit::push_if;
-use cf_tree::{Base, NoMemory, Rel, SetTerm, Term};
+use cf_tree::{Base, NoMemory, Rel, rel_holds};
 use std::alloc::Global;
-
-// Whether the set form holds the variable.
-fn set_holds(x: u32, set: &SetTerm) -> bool
-    ensures { result ≡ set_holds x (set_tree set.now) }
-{
-    match set {
-        SetTerm::Empty => false,
-        SetTerm::Var(y) => x == *y,
-        SetTerm::Union(a, b) | SetTerm::Inter(a, b) | SetTerm::Diff(a, b) => {
-            set_holds(x, a) || set_holds(x, b)
-        }
-    }
-}
-
-// Whether the number form holds the variable.
-fn term_holds(x: u32, term: &Term) -> bool
-    ensures { result ≡ term_holds x (term_tree term.now) }
-{
-    match term {
-        Term::Lit(_) => false,
-        Term::Var(y) => x == *y,
-        Term::Card(set) => set_holds(x, set),
-        Term::Neg(a) | Term::Abs(a) => term_holds(x, a),
-        Term::Add(a, b) | Term::Sub(a, b) | Term::Mul(a, b) => term_holds(x, a) || term_holds(x, b),
-        Term::Div(a, _) | Term::Mod(a, _) => term_holds(x, a),
-    }
-}
-
-// Whether the relation holds the variable.
-fn rel_holds(x: u32, rel: &Rel) -> bool
-    ensures { result ≡ rel_holds x (rel_tree rel.now) }
-{
-    match rel {
-        Rel::True | Rel::False => false,
-        Rel::Compare {
-            order: _,
-            left,
-            right,
-        } => term_holds(x, left) || term_holds(x, right),
-        Rel::SameSet(a, b) | Rel::OtherSet(a, b) | Rel::Subset(a, b) => {
-            set_holds(x, a) || set_holds(x, b)
-        }
-        Rel::Divides { k: _, of } => term_holds(x, of),
-        Rel::And(a, b) | Rel::Or(a, b) => rel_holds(x, a) || rel_holds(x, b),
-        Rel::Not(a) => rel_holds(x, a),
-    }
-}
 
 // The levels of the numbers among the bases, the first base having level `first`.
 fn numbers(alloc: Global, bases: &[Base], first: u32) -> Result<Vec<u32>, NoMemory>
@@ -104,7 +58,7 @@ fn held(alloc: Global, levels: &[u32], rel: &Rel) -> Result<Vec<u32>, NoMemory>
 {
     let mut out = Vec::new(alloc);
     for x in levels {
-        push_if(&mut out, rel_holds(*x, rel), *x)?;
+        push_if(&mut out, rel_holds(rel, *x), *x)?;
     }
     Ok(out)
 }

@@ -5,10 +5,10 @@ use Rattle.cf_tree.specs.declared.base.Base.{Base}
 use Rattle.cf_tree.specs.declared.base.Base.TheVariants.{Int, Bool as Truth, Set}
 use Rattle.cf_tree.specs.declared.base.Order.TheVariants.{Le}
 use Rattle.cf_tree.specs.declared.raw.Param.{Param}
+use Rattle.cf_tree.specs.Occurs.{rel_holds}
 use Rattle.cf_tree.specs.Params.{bases_of}
 use Rattle.cf_tree.specs.RelTree.{term_lit, term_var, RelTree, rel_true, rel_false, rel_compare, rel_same_set, rel_other_set, rel_subset, rel_divides, rel_and, rel_or, rel_not}
 use Rattle.cf_form.specs.Alternatives.{all_of}
-use Rattle.cf_form.specs.Occurs.{rel_holds}
 use Rattle.cf_form.specs.Polarity.{Truths, holding}
 use Rattle.cf_form.specs.Wide.{WideTerm, WideRel, has_truth, term_has_truth}
 

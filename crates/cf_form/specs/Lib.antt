@@ -15,7 +15,6 @@ pub mod Laws
 pub mod LinearWide
 pub mod Made
 pub mod Numbers
-pub mod Occurs
 pub mod Passed
 pub mod Polarity
 pub mod Relations

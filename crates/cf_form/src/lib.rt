@@ -22,7 +22,6 @@ mod guarded;
 mod join;
 mod limits;
 mod made;
-mod occurs;
 mod plain;
 mod polarity;
 mod saturated;

@@ -9,10 +9,9 @@ ghost use Rattle.cf_form.specs.WideView.{given_rel};
 use crate::branch::{branched, in_branch, push_if, relation_at};
 use crate::choose::{joined_bases, with_value};
 use crate::chooses::WideChoose;
-use crate::occurs::rel_holds;
 use crate::told::{Branch, ChooseInfo, TruthAt};
 use crate::wide::{Room, WideRel};
-use cf_tree::{NoMemory, Rel, to_u32, without};
+use cf_tree::{NoMemory, Rel, rel_holds, to_u32, without};
 use std::alloc::Global;
 
 /// What is told of chooses.

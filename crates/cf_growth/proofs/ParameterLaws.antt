@@ -9,7 +9,7 @@ use Rattle.cf_tree.specs.RelTree.{RelTree}
 use Rattle.cf_tree.specs.Values.{Value, elements, number_of, value_at, HaveBases}
 use Rattle.cf_linear.specs.Arm.{level_of, ArmBuilder, let_region}
 use Rattle.cf_linear.specs.Keep.{In}
-use Rattle.cf_linear.specs.Layout.{Layout, layout_of, levels_with, is_number, is_set, rel_holds, place, number_column, input_column, known_count}
+use Rattle.cf_linear.specs.Layout.{Layout, layout_of, place, number_column, input_column, known_count}
 use Rattle.cf_linear.proofs.BoolLemmas.{on_bool}
 use Rattle.cf_linear.proofs.KindLemmas.{In-right, In-left}
 use Rattle.cf_choose.specs.CaseArms.{parameter_names}
@@ -20,7 +20,7 @@ use Rattle.cf_venn.specs.Codes.{HoldsInputs}
 use Rattle.cf_venn.specs.Columns.{known_values}
 use Rattle.cf_venn.proofs.ColumnLaws.{number_known}
 use Rattle.cf_venn.proofs.KnownLaws.{place_at, parameters_known}
-use Rattle.cf_venn.proofs.LevelLaws.{Up, up_levels, up_filter}
+use Rattle.cf_venn.proofs.LevelLaws.{is_layout}
 use Rattle.cf_growth.specs.Reaching.{size_of, parameters_size}
 use Rattle.cf_growth.proofs.SizeLaws.{number_size, size_in, level_in}
 
@@ -33,12 +33,6 @@ In-unpassed x p (y ∷ xs) i =
 module _ (scope outputs : List Base) (rel : RelTree) where
   abbrev l : Layout
   l = layout_of scope outputs rel
-
-  pub inputs_up : Up 0 l.inputs
-  inputs_up = up_filter (λ x. rel_holds x rel) 0 (levels_with is_set 0 scope) (up_levels is_set 0 scope)
-
-  numbers_up : Up 0 l.numbers
-  numbers_up = up_filter (λ x. rel_holds x rel) 0 (levels_with is_number 0 scope) (up_levels is_number 0 scope)
 
   pub parameter_column : (d : ℕ) → In d (named (parameter_names l)) → (1 ≤ d) × (d < known_count l)
   parameter_column d i =
@@ -66,7 +60,7 @@ module _ (scope outputs : List Base) (rel : RelTree) where
       by_place g =
           let j = In-at l.numbers i (omega arith) in
           let x = get_or l.numbers i 0 in
-          let e : number_column l x ≡ suc i = column_is l x j ∙ ap (λ n. 1 + n) (place_at 0 l.numbers i numbers_up (omega arith)).1 ∙ omega arith in
+          let e : number_column l x ≡ suc i = column_is l x j ∙ ap (λ n. 1 + n) (place_at 0 l.numbers i (is_layout scope outputs rel).numbers_up (omega arith)).1 ∙ omega arith in
           subst (λ d. In d (named (parameter_names l))) e (parameter_named l x l.numbers j)
 
   -- a parameter's column and the level that it names

@@ -19,7 +19,7 @@ use Rattle.cf_venn.proofs.LevelLaws.{same_each, is_layout}
 use Rattle.cf_venn.proofs.RegionCodes.{region_gives}
 use Rattle.cf_growth.specs.Reaching.{parameters_size, IsNearElement}
 use Rattle.cf_growth.proofs.MetCodes.{IsMet}
-use Rattle.cf_growth.proofs.ParameterLaws.{In-unpassed, inputs_up, inputs_held, input_small}
+use Rattle.cf_growth.proofs.ParameterLaws.{In-unpassed, inputs_held, input_small}
 use Rattle.cf_growth.proofs.ReachLaws.{At, with_let, let_at, set_at}
 use Rattle.cf_growth.proofs.SetCodes.{IsSetMet, AllSets, set_var_met, inter_met, diffs_met}
 
@@ -74,7 +74,7 @@ module _ (scope outputs : List Base) (rel : RelTree) (env : List Value) (have : 
       (inter_met n k (E n) (vars (sets_in l m)) e (input_sets n e b (sets_in l m) (λ x i. In-unpassed x (λ x. bit (place x l.inputs) m) l.inputs i)))
 
   region_is : (m : ℕ) (e : List Value) → Begins e → 1 ≤ m → m < 2 ^ length l.inputs → (path (region_code l m) e).gives ≡ got (elements (region ins m) ∷ [])
-  region_is m e b x y = region_gives l e (still_held e b) 0 (inputs_up scope outputs rel) m x y ∙ ap (λ ss. got (elements (region ss m) ∷ [])) (still_same e b)
+  region_is m e b x y = region_gives l e (still_held e b) 0 (is_layout scope outputs rel).inputs_up m x y ∙ ap (λ ss. got (elements (region ss m) ∷ [])) (still_same e b)
 
   pub count_small : (m : ℕ) → 1 ≤ m → m < 2 ^ length l.inputs → count ins m ≤ k
   count_small m x y =

@@ -14,6 +14,11 @@ use std::rt::Files;
 // How often an interrupted call is tried again before it counts as a fault.
 const MOST_TRIES: u32 = 65_536;
 
+// The path of the file of this name.
+fn path_of(name: &str) -> &str {
+    if name == "-" { "/dev/stdin" } else { name }
+}
+
 // One read, tried again where it was interrupted.
 fn read_again<R: Read>(inner: &mut R, into: &mut [u8]) -> Result<usize, Failed>
     ensures bound { ReadsAtMost result into.new }
@@ -29,21 +34,21 @@ fn read_again<R: Read>(inner: &mut R, into: &mut [u8]) -> Result<usize, Failed>
     Err(Failed)
 }
 
-// One write, tried again where it was interrupted. A writer that takes nothing failed.
-fn write_again<W: Write>(inner: &mut W, from: &[u8]) -> Result<usize, Failed>
+// One write, tried again where it was interrupted; or why it failed. A writer that takes nothing failed.
+fn write_again<W: Write>(inner: &mut W, from: &[u8]) -> Result<usize, ErrorKind>
     ensures bound { WritesAtMost result from.now }
     ensures bytes { WriteAppends (W.contents inner.old) (W.contents inner.new) result from.now }
     ensures some { IfOk result (λ count. 0 < count) }
 {
     'tries: for _ in 0..MOST_TRIES {
         match inner.write(from) {
-            Ok(0) => return Err(Failed),
+            Ok(0) => return Err(ErrorKind::WriteZero),
             Ok(count) => return Ok(count),
             Err(fault) if fault.kind() == ErrorKind::Interrupted => {}
-            Err(_) => return Err(Failed),
+            Err(fault) => return Err(fault.kind()),
         }
     }
-    Err(Failed)
+    Err(ErrorKind::Interrupted)
 }
 
 /// A source over a reader, as the standard input. An interrupted call is no fault.
@@ -118,6 +123,7 @@ impl<R: Read> Source for ReadSource<R> {
 pub struct WriteSink<W> {
     inner: W,
     faults: u64,
+    has_lost_reader: bool,
     ghost counted: { faults < 2 ^ 64 },
 }
 
@@ -127,7 +133,11 @@ impl<W: Write> WriteSink<W> {
         ensures inner { result.inner ≡ inner }
         ensures faults { result.faults ≡ 0 }
     {
-        WriteSink { inner, faults: 0 }
+        WriteSink {
+            inner,
+            faults: 0,
+            has_lost_reader: false,
+        }
     }
 }
 
@@ -158,15 +168,20 @@ impl<W: Write> Sink for WriteSink<W> {
         }
         match write_again(&mut self.inner, from) {
             Ok(count) => Ok(count),
-            Err(_) => {
+            Err(kind) => {
                 self.faults = self.faults.saturating_add(1);
+                self.has_lost_reader = kind == ErrorKind::BrokenPipe;
                 Err(Failed)
             }
         }
     }
+
+    fn has_lost_reader(&self) -> bool {
+        self.has_lost_reader
+    }
 }
 
-/// A shelf over files: a name is a path. It is turned to every name, and has one count for all.
+/// A shelf over files: a name is a path, and `-` is the standard input. It is turned to every name, and has one count for all.
 #[derive(Drop)]
 pub struct FileShelf<'a, R: Files> {
     rt: &'a R,
@@ -226,7 +241,7 @@ impl<'a, R: Files> Shelf for FileShelf<'a, R> {
         ensures counted { IsErrOf result FetchFault.Failed → self.new.faults ≡ one_more self.old.faults }
     {
         self.fetches = self.fetches.saturating_add(1);
-        match fs::open(self.rt, name) {
+        match fs::open(self.rt, path_of(name)) {
             Ok(file) => {
                 self.file = Some(file);
                 Ok(())

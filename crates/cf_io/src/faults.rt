@@ -1,7 +1,7 @@
 //! The faults of the outside.
 ghost use Rattle.std.specs.Prelude.{◌≡◌};
 ghost use Rattle.cf_io.specs.Faults.{of_fetch};
-ghost use Rattle.cf_io.specs.declared.faults.ReadFault.TheVariants as read_fault;
+ghost use Rattle.cf_io.specs.declared.faults.FetchFault.TheVariants as fetch_fault;
 
 use std::alloc::AllocError;
 
@@ -9,7 +9,7 @@ use std::alloc::AllocError;
 #[derive(Clone, Copy, Debug, PartialEq, Eq)]
 pub struct Failed;
 
-/// Why a text was not fetched.
+/// Why a text was not fetched, or not read.
 #[derive(Clone, Copy, Debug, PartialEq, Eq)]
 pub enum FetchFault {
     Failed,
@@ -25,19 +25,19 @@ pub enum ReadFault {
     NoMemory,
 }
 
-impl From<Failed> for ReadFault {
-    ghost from_gives = { λ _ e. e ≡ read_fault.Failed };
+impl From<Failed> for FetchFault {
+    ghost from_gives = { λ _ e. e ≡ fetch_fault.Failed };
 
-    fn from(_fault: Failed) -> ReadFault {
-        ReadFault::Failed
+    fn from(_fault: Failed) -> FetchFault {
+        FetchFault::Failed
     }
 }
 
-impl From<AllocError> for ReadFault {
-    ghost from_gives = { λ _ e. e ≡ read_fault.NoMemory };
+impl From<AllocError> for FetchFault {
+    ghost from_gives = { λ _ e. e ≡ fetch_fault.NoMemory };
 
-    fn from(_error: AllocError) -> ReadFault {
-        ReadFault::NoMemory
+    fn from(_error: AllocError) -> FetchFault {
+        FetchFault::NoMemory
     }
 }
 

@@ -26,7 +26,7 @@ pub use line::Line;
 pub use mem_shelf::MemShelf;
 pub use mem_sink::MemSink;
 pub use mem_source::MemSource;
-pub use read::read_text;
+pub use read::{read_front, read_text};
 pub use segments::first_line;
 pub use sure::{SureShelf, SureSink, SureSource};
 pub use traits::{Shelf, Sink, Source};

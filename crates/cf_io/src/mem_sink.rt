@@ -91,4 +91,8 @@ impl Sink for MemSink {
         self.room -= count;
         Ok(count)
     }
+
+    fn has_lost_reader(&self) -> bool {
+        false
+    }
 }

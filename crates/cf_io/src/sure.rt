@@ -216,4 +216,8 @@ impl Sink for SureSink {
         self.taken = self.taken.saturating_add(count as u64);
         Ok(count)
     }
+
+    fn has_lost_reader(&self) -> bool {
+        false
+    }
 }

@@ -98,4 +98,8 @@ pub trait Sink {
         ensures last { (seen self.new).faults < 2 ^ 64 }
         ensures same { OnOk result ((seen self.new).faults ≡ (seen self.old).faults) }
         ensures once { (seen self.new).faults ≤ one_more (seen self.old).faults };
+
+    /// Whether the last fault was that whoever reads what is written went away, as far as the sink
+    /// can tell.
+    fn has_lost_reader(&self) -> bool;
 }

@@ -8,6 +8,7 @@ use Rattle.cf_tree.specs.declared.base.Base.{Base}
 use Rattle.cf_tree.specs.Relation.{val, Holds, is_fixed, IsLinearTerm, IsTypedTerm, IsTyped}
 use Rattle.cf_tree.specs.RelTree.{TermTree, term_lit, term_var, term_card, term_neg, term_add, term_sub, term_mul, term_div, term_mod, term_abs, RelTree, rel_true, rel_false, rel_compare, rel_same_set, rel_other_set, rel_subset, rel_divides, rel_and, rel_or, rel_not}
 use Rattle.cf_tree.specs.Values.{Value, number, number_of, value_at}
+use Rattle.cf_tree.proofs.LeavesLaws.{set_itself}
 use Rattle.cf_late.specs.At.{variable_known, term_known, rel_known}
 use Rattle.cf_late.specs.Fitting.{AreFit}
 use Rattle.cf_program.specs.LateLinear.{is_fixed_below, IsLateLinearTerm}
@@ -31,7 +32,7 @@ variable_val x env xs = by (nat_lt x (length env)) refl
 known_val : (t : TermTree) (env xs : List Value) → val (term_known (length env) t env) (env ++ xs) ≡ val t (env ++ xs)
 known_val (term_lit k) env xs = refl
 known_val (term_var x) env xs = variable_val x env xs
-known_val (term_card s) env xs = refl
+known_val (term_card s) env xs = rw (set_itself s) refl
 known_val (term_neg a) env xs = rw (known_val a env xs) refl
 known_val (term_add a b) env xs = rw (known_val a env xs, known_val b env xs) refl
 known_val (term_sub a b) env xs = rw (known_val a env xs, known_val b env xs) refl
@@ -44,9 +45,9 @@ known_holds : (rel : RelTree) (env xs : List Value) → Holds (rel_known (length
 known_holds rel_true env xs = ((λ h. h), λ h. h)
 known_holds rel_false env xs = ((λ h. h), λ h. h)
 known_holds (rel_compare o a b) env xs = rw (known_val a env xs, known_val b env xs) ((λ h. h), λ h. h)
-known_holds (rel_same_set a b) env xs = ((λ h. h), λ h. h)
-known_holds (rel_other_set a b) env xs = ((λ h. h), λ h. h)
-known_holds (rel_subset a b) env xs = ((λ h. h), λ h. h)
+known_holds (rel_same_set a b) env xs = rw (set_itself a, set_itself b) ((λ h. h), λ h. h)
+known_holds (rel_other_set a b) env xs = rw (set_itself a, set_itself b) ((λ h. h), λ h. h)
+known_holds (rel_subset a b) env xs = rw (set_itself a, set_itself b) ((λ h. h), λ h. h)
 known_holds (rel_divides k t) env xs = rw (known_val t env xs) ((λ h. h), λ h. h)
 known_holds (rel_and a b) env xs =
     let p = known_holds a env xs in
@@ -72,7 +73,7 @@ module _ (n : ℕ) (bases : List Base) (env : List Value) (fit : AreFit env) whe
   term_typed : (t : TermTree) → IsTypedTerm bases t → IsTypedTerm bases (term_known n t env)
   term_typed (term_lit k) h = h
   term_typed (term_var x) h = variable_typed x (nat_lt x n) h
-  term_typed (term_card s) h = h
+  term_typed (term_card s) h = rw (set_itself s) h
   term_typed (term_neg a) h = term_typed a h
   term_typed (term_add a b) h = (term_typed a h.0, term_typed b h.1)
   term_typed (term_sub a b) h = (term_typed a h.0, term_typed b h.1)
@@ -85,9 +86,9 @@ module _ (n : ℕ) (bases : List Base) (env : List Value) (fit : AreFit env) whe
   rel_typed rel_true h = tt
   rel_typed rel_false h = tt
   rel_typed (rel_compare o a b) h = (term_typed a h.0, term_typed b h.1)
-  rel_typed (rel_same_set a b) h = h
-  rel_typed (rel_other_set a b) h = h
-  rel_typed (rel_subset a b) h = h
+  rel_typed (rel_same_set a b) h = rw (set_itself a, set_itself b) h
+  rel_typed (rel_other_set a b) h = rw (set_itself a, set_itself b) h
+  rel_typed (rel_subset a b) h = rw (set_itself a, set_itself b) h
   rel_typed (rel_divides k t) h = (h.0, term_typed t h.1)
   rel_typed (rel_and a b) h = (rel_typed a h.0, rel_typed b h.1)
   rel_typed (rel_or a b) h = (rel_typed a h.0, rel_typed b h.1)

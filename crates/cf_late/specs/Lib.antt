@@ -8,5 +8,4 @@ pub mod ChooseRun
 pub mod Fitting
 pub mod LateChoose
 pub mod Laws
-pub mod OtherParts
 pub mod Outcomes

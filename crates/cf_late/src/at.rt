@@ -1,14 +1,13 @@
 //! Relations at the values of the variables in scope.
 ghost use Rattle.std.specs.Prelude.{◌≡◌, IfOk};
-ghost use Rattle.cf_tree.specs.RelTree.{rel_compare};
+ghost use Rattle.cf_tree.specs.RelTree.{set_var};
 ghost use Rattle.cf_tree.specs.RelView.{term_tree, rel_tree};
 ghost use Rattle.cf_tree.specs.Values.{number_of, value_at};
 ghost use Rattle.cf_eval.specs.Seen.{plains};
-ghost use Rattle.cf_late.specs.At.{variable_known, term_known, rel_known};
-ghost use Rattle.cf_late.specs.OtherParts.{term_over_one, term_over_two, rel_over_two};
+ghost use Rattle.cf_late.specs.At.{variable_known, rel_known};
 
 use cf_eval::{Value, number_in};
-use cf_tree::{NoMemory, Order, Rel, Term, without};
+use cf_tree::{Leaves, NoMemory, Rel, SetTerm, Term};
 use std::alloc::Global;
 
 // The number of level x, 0 where none stands there.
@@ -32,120 +31,30 @@ fn variable_at(scope: usize, x: u32, env: &[Value]) -> Term
     }
 }
 
-#[cycle(term)]
-fn term_at(alloc: Global, scope: usize, term: &Term, env: &[Value]) -> Result<Term, NoMemory>
-    ensures { IfOk result (λ new. term_tree new ≡ term_known scope (term_tree term.now) (plains env.now)) }
-{
-    match term {
-        Term::Lit(n) => Ok(Term::Lit(*n)),
-        Term::Var(x) => Ok(variable_at(scope, *x, env)),
-        Term::Card(_) => term.try_copy(alloc),
-        Term::Neg(a) | Term::Div(a, _) | Term::Mod(a, _) | Term::Abs(a) => {
-            let part = boxed_term(alloc, scope, a, env)?;
-            Ok(term_over_one(term, part))
-        }
-        Term::Add(a, b) | Term::Sub(a, b) | Term::Mul(a, b) => {
-            let first = boxed_term(alloc, scope, a, env)?;
-            match boxed_term(alloc, scope, b, env) {
-                Ok(second) => Ok(term_over_two(term, first, second)),
-                Err(fault) => Err(without(first, fault)),
-            }
-        }
-    }
-}
-
-// The form of the term over another part.
-fn term_over_one(term: &Term, a: Box<Term>) -> Term
-    ensures { term_tree result ≡ term_over_one (term_tree term.now) (term_tree a.value) }
-{
-    match term {
-        Term::Div(_, k) => Term::Div(a, *k),
-        Term::Mod(_, k) => Term::Mod(a, *k),
-        Term::Abs(_) => Term::Abs(a),
-        _ => Term::Neg(a),
-    }
-}
-
-// The form of the term over two other parts.
-fn term_over_two(term: &Term, a: Box<Term>, b: Box<Term>) -> Term
-    ensures { term_tree result ≡ term_over_two (term_tree term.now) (term_tree a.value) (term_tree b.value) }
-{
-    match term {
-        Term::Sub(_, _) => Term::Sub(a, b),
-        Term::Mul(_, _) => Term::Mul(a, b),
-        _ => Term::Add(a, b),
-    }
-}
-
-#[cycle(term)]
-fn boxed_term(
-    alloc: Global,
+// So many variables in scope and their values: their numbers stand in their place, and sets and outputs stay.
+#[derive(Clone, Copy)]
+struct Known<'a> {
     scope: usize,
-    term: &Term,
-    env: &[Value],
-) -> Result<Box<Term>, NoMemory>
-    ensures { IfOk result (λ new. term_tree new.value ≡ term_known scope (term_tree term.now) (plains env.now)) }
-{
-    Ok(Box::new(alloc, term_at(alloc, scope, term, env)?)?)
+    env: &'a [Value],
+}
+
+impl<'a> Leaves for Known<'a> {
+    ghost becomes_term = { λ known x. variable_known known.scope x (plains known.env.now) };
+
+    ghost becomes_set = { λ _ x. set_var x };
+
+    fn term(&self, level: u32) -> Result<Term, NoMemory> {
+        Ok(variable_at(self.scope, level, self.env))
+    }
+
+    fn set(&self, level: u32) -> Result<SetTerm, NoMemory> {
+        Ok(SetTerm::Var(level))
+    }
 }
 
 // The relation of a choose with so many variables in scope, which have these values.
-#[cycle(rel)]
 pub(crate) fn rel_at(alloc: Global, scope: usize, rel: &Rel, env: &[Value]) -> Result<Rel, NoMemory>
     ensures { IfOk result (λ new. rel_tree new ≡ rel_known scope (rel_tree rel.now) (plains env.now)) }
 {
-    match rel {
-        Rel::True => Ok(Rel::True),
-        Rel::False => Ok(Rel::False),
-        Rel::Compare { order, left, right } => comparison(alloc, scope, *order, left, right, env),
-        Rel::SameSet(_, _) | Rel::OtherSet(_, _) | Rel::Subset(_, _) => rel.try_copy(alloc),
-        Rel::Divides { k, of } => {
-            let of = boxed_term(alloc, scope, of, env)?;
-            Ok(Rel::Divides { k: *k, of })
-        }
-        Rel::And(a, b) | Rel::Or(a, b) => {
-            let first = boxed_rel(alloc, scope, a, env)?;
-            match boxed_rel(alloc, scope, b, env) {
-                Ok(second) => Ok(rel_over_two(rel, first, second)),
-                Err(fault) => Err(without(first, fault)),
-            }
-        }
-        Rel::Not(a) => Ok(Rel::Not(boxed_rel(alloc, scope, a, env)?)),
-    }
-}
-
-#[cycle(rel)]
-fn boxed_rel(alloc: Global, scope: usize, rel: &Rel, env: &[Value]) -> Result<Box<Rel>, NoMemory>
-    ensures { IfOk result (λ new. rel_tree new.value ≡ rel_known scope (rel_tree rel.now) (plains env.now)) }
-{
-    Ok(Box::new(alloc, rel_at(alloc, scope, rel, env)?)?)
-}
-
-// A comparison of two terms.
-fn comparison(
-    alloc: Global,
-    scope: usize,
-    order: Order,
-    left: &Term,
-    right: &Term,
-    env: &[Value],
-) -> Result<Rel, NoMemory>
-    ensures { IfOk result (λ new. rel_tree new ≡ rel_compare order (term_known scope (term_tree left.now) (plains env.now))
-        (term_known scope (term_tree right.now) (plains env.now))) }
-{
-    let left = boxed_term(alloc, scope, left, env)?;
-    match boxed_term(alloc, scope, right, env) {
-        Ok(right) => Ok(Rel::Compare { order, left, right }),
-        Err(fault) => Err(without(left, fault)),
-    }
-}
-
-// The form of the relation over two other ones.
-fn rel_over_two(rel: &Rel, a: Box<Rel>, b: Box<Rel>) -> Rel
-    ensures { rel_tree result ≡ rel_over_two (rel_tree rel.now) (rel_tree a.value) (rel_tree b.value) }
-{
-    match rel {
-        Rel::Or(_, _) => Rel::Or(a, b),
-        _ => Rel::And(a, b),
-    }
+    rel.rebuilt(alloc, &Known { scope, env })
 }

@@ -8,7 +8,6 @@ mod eval;
 mod operate;
 mod outcome;
 mod pattern;
-mod reason;
 mod reply;
 mod run;
 mod stop;
@@ -16,7 +15,6 @@ mod values;
 
 ghost use Rattle.cf_late.specs.ProgramLaw.{LateRunsAreAllowed};
 
-pub use crate::reason::{Reason, in_words, refusal_reason};
 pub use crate::reply::late_reply;
 pub use crate::run::run_late;
 

@@ -7,9 +7,8 @@ ghost use Rattle.cf_late.specs.ChooseRun.{refused};
 ghost use Rattle.cf_late.specs.Texts.{late_text};
 
 use crate::outcome::LateOutcome;
-use crate::reason::refusal_reason;
 use cf_eval::{Outcome, Value, put_values, reply};
-use cf_linear::Refusal;
+use cf_linear::{Refusal, refusal_reason};
 use cf_tree::NoMemory;
 use itoa::Buffer;
 use std::alloc::Global;

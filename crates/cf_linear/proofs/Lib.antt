@@ -12,6 +12,7 @@ mod LimitExamples
 pub mod MapLemmas
 pub mod MergingLemmas
 pub mod PassingLemmas
+mod ReasonExamples
 pub mod RefusalExamples
 pub mod RowLemmas
 pub mod RowTests

@@ -14,6 +14,7 @@ pub mod Relations
 pub mod Keep
 pub mod Solved
 pub mod Factors
+pub mod Reasons
 pub mod RowParts
 pub mod Searching
 pub mod Sides

@@ -6,6 +6,7 @@ mod copy;
 mod merge_factors;
 mod parts;
 mod quotient;
+mod reason;
 mod refusal;
 mod row;
 mod searching;
@@ -19,6 +20,7 @@ pub use crate::columns::{first_free, has_bit, known_count, number_column, place,
 pub use crate::merge_factors::{MergeFactors, factors};
 pub use crate::parts::{common, divided, divides_known, has_unknown, known_part, unknown_part};
 pub use crate::quotient::{division, size_of};
+pub use crate::reason::{Reason, in_words, refusal_reason};
 pub use crate::refusal::{
     LimitKind, MOST_CASES, MOST_COLUMNS, MOST_ROWS, MOST_SETS, MOST_TUPLES, Refusal, RowFault,
 };

@@ -75,4 +75,8 @@ impl Sink for Growing {
             }
         }
     }
+
+    fn has_lost_reader(&self) -> bool {
+        false
+    }
 }

@@ -21,7 +21,7 @@ abbrev compiles : Command
 compiles = compile (record { plain = false; stats = false }) (codes "a")
 
 abbrev runs : Command
-runs = run (record { plain = false; stats = false }) (codes "a")
+runs = run (record { plain = false; stats = false }) (record { key = false; jsonl = false }) (codes "a")
 
 abbrev one_file : List (List ℕ)
 one_file = codes "1" ∷ []
@@ -182,6 +182,8 @@ refused-words = record {
   passes = passes;
   is = refl;
   answers = (inl refl, refl, refl);
+  line = usage;
+  written = refl;
   told = record { prefix = (usage, [], refl, refl); whole = inr (refl, refl) };
 }
 
@@ -192,6 +194,8 @@ refused-words_untold = record {
   passes = passes;
   is = refl;
   answers = (inl refl, refl, refl);
+  line = usage;
+  written = refl;
   told = record {
     prefix = (
       codes "usa",
@@ -213,7 +217,8 @@ done-words errors_after t = no t.answer t.is t.answers.0
 
 -- and the line is that of the answer
 silent-words : TopAnswer None passes before before (errors [] 0) (errors [] 0) Usage → ⊥
-silent-words t = no t.answer t.answers.0 t.told.whole
+silent-words t =
+    no t.answer t.answers.0 (subst (λ l. (◌≡◌ {A = ℕ} 0 (one_more 0)) ⊎ ((◌≡◌ {A = List ℕ} [] l) × ◌≡◌ {A = ℕ} 0 0)) t.written t.told.whole)
   where
     no : (answer : Result (Unit {0}) Fault) → (answer ≡ Err fault.Usage) ⊎ (answer ≡ Err fault.NoMemory) →
         (◌≡◌ {A = ℕ} 0 (one_more 0)) ⊎ (([] ≡ answer_line answer) × ◌≡◌ {A = ℕ} 0 0) → ⊥

@@ -1,9 +1,9 @@
 -- From reading a file to what the command does.
-use Rattle.std.proofs.Common.{◌≡◌, inl, inr, sym, ap, subst, refl, ℕ, ◌<◌, ◌≤◌, ◌+◌, false, List, [], ◌∷◌, length, Option, Some, None, arith, rules}
+use Rattle.std.proofs.Common.{◌≡◌, inl, inr, sym, ap, subst, refl, ℕ, ◌<◌, ◌≤◌, ◌+◌, false, List, [], ◌∷◌, length, take, Option, Some, None, arith, rules}
 use Rattle.std.specs.Prelude.{◌⊎◌, Result, Err, IfSome, Contains}
 use Rattle.cf_io.specs.Bytes.{TookFront}
 use Rattle.cf_io.specs.Causes.{Rose, one_more}
-use Rattle.cf_io.specs.Seen.{ShelfSeen}
+use Rattle.cf_io.specs.Seen.{ShelfSeen, SourceSeen, SinkSeen}
 use Rattle.cf_pass.specs.Passes.{Told}
 use Rattle.cf_words.specs.Commands.{Command, command_on, verify}
 use Rattle.cf_answer.specs.Commands.{names_of, reads_input, calls_passes, text_most}
@@ -11,7 +11,7 @@ use Rattle.cf_answer.specs.Ends.{Ends, Does, Answers, AnswersOn, IsInOrder, sour
 use Rattle.cf_answer.specs.Limits.{text_limit, written_limit, of_target, most_of, edition_for, input_most}
 use Rattle.cf_tree.specs.declared.base.Edition.{Edition}
 use Rattle.cf_tree.specs.declared.base.Edition.TheVariants.{Two, Three}
-use Rattle.cf_answer.specs.Outside.{Outside, AreTold, AreTexts, IsSparing, IsFrugal}
+use Rattle.cf_answer.specs.Outside.{Outside, streams, AreTold, AreTexts, IsSparing, IsFrugal}
 use Rattle.cf_answer.specs.Refusals.{too_long, Refuses}
 use Rattle.cf_answer.specs.declared.status.Status.{Status}
 use Rattle.cf_answer.specs.declared.status.Status.TheVariants.{NoMemory}
@@ -20,23 +20,16 @@ use Rattle.cf_answer.specs.declared.fault.Fault.TheVariants as fault
 use Rattle.cf_words.specs.declared.command.CommandKind.{CommandKind}
 use Rattle.cf_words.specs.declared.command.CommandKind.TheVariants.{Compile, Run, Pre, Check, Exec, Prove}
 use Rattle.cf_words.specs.declared.command.Flags.{Flags}
+use Rattle.cf_words.specs.declared.command.ReplyForm.{ReplyForm}
 use Rattle.cf_answer.proofs.CountLemmas.{one_fault}
+use Rattle.cf_answer.proofs.EndedLemmas.{told_front, long_front, one_name}
 use Rattle.cf_answer.proofs.FaultLemmas.{failed}
 use Rattle.cf_answer.proofs.OutsideLemmas.{Untouched, nothing_read, none_read, none_written, no_fault, no_input_fault, no_out_fault, long_text}
 use Rattle.cf_answer.proofs.PassLemmas.{unpassed}
 use Rattle.cf_answer.proofs.StepLemmas.{left_of, left_told}
 
--- a command on one file
-pub one_name : (kind : CommandKind) (flags : Flags) (name : List ℕ) → names_of (command_on kind flags name) ≡ name ∷ []
-one_name Compile flags name = refl
-one_name Run flags name = refl
-one_name Pre flags name = refl
-one_name Check flags name = refl
-one_name Exec flags name = refl
-one_name Prove flags name = refl
-
-pub reads_a_file : (kind : CommandKind) (flags : Flags) (name : List ℕ) → names_of (command_on kind flags name) ≡ [] → ⊥
-reads_a_file kind flags name none = let one : names_of (command_on kind flags name) ≡ name ∷ [] = one_name kind flags name in cc
+pub reads_a_file : (kind : CommandKind) (flags : Flags) (form : ReplyForm) (name : List ℕ) → names_of (command_on kind flags form name) ≡ [] → ⊥
+reads_a_file kind flags form name none = let one : names_of (command_on kind flags form name) ≡ name ∷ [] = one_name kind flags form name in cc
 
 texts : (c : Command) (name : List ℕ) (told : List ℕ → Option (List ℕ)) (text : List ℕ) → names_of c ≡ name ∷ [] → AreTold (told name) text →
     AreTexts told (names_of c) (text ∷ [])
@@ -151,26 +144,47 @@ past_its_own Two count h = omega (arith, h)
 past_its_own Three count h = h
 
 -- a text that is too long
-long_refused : (kind : CommandKind) (flags : Flags) (name text : List ℕ) → text_most (command_on kind flags name) (edition_for (text ∷ [])) < length text →
-    Refuses (command_on kind flags name) (text ∷ []) fault.TextTooLong
-long_refused Compile flags name text h = too_long h
-long_refused Run flags name text h = too_long h
-long_refused Pre flags name text h = too_long h
-long_refused Check flags name text h = too_long h
-long_refused Exec flags name text h = too_long (past_its_own (edition_for (text ∷ [])) (length text) h)
-long_refused Prove flags name text h = too_long h
+long_refused : (kind : CommandKind) (flags : Flags) (form : ReplyForm) (name text : List ℕ) →
+    text_most (command_on kind flags form name) (edition_for (text ∷ [])) < length text →
+    Refuses (command_on kind flags form name) (text ∷ []) fault.TextTooLong
+long_refused Compile flags form name text h = too_long h
+long_refused Run flags form name text h = too_long h
+long_refused Pre flags form name text h = too_long h
+long_refused Check flags form name text h = too_long h
+long_refused Exec flags form name text h = too_long (past_its_own (edition_for (text ∷ [])) (length text) h)
+long_refused Prove flags form name text h = too_long h
 
-pub long_does : (kind : CommandKind) (flags : Flags) (name : List ℕ) (given : List Told) (before after : Outside)
-    (file : FileRead (command_on kind flags name) name before.shelf after.shelf) →
+pub long_does : (kind : CommandKind) (flags : Flags) (form : ReplyForm) (name : List ℕ) (given : List Told) (before after : Outside)
+    (file : FileRead (command_on kind flags form name) name before.shelf after.shelf) →
     IfSome (before.shelf.texts name) (λ text. file.limit < length text) →
     Untouched before after → ((other : List ℕ) → after.shelf.faults other ≡ before.shelf.faults other) →
-    Does (command_on kind flags name) given given before after (Err fault.TextTooLong)
-long_does kind flags name given before after file long none same =
+    Does (command_on kind flags form name) given given before after (Err fault.TextTooLong)
+long_does kind flags form name given before after file long none same =
     let text = long_text file.limit (before.shelf.texts name) long in
     let past = subst (λ n. n < length text.0) (file.is (text.0 ∷ [])) text.2 in
-    inner_does (command_on kind flags name) name given before after text.0 fault.TextTooLong (one_name kind flags name) text.1
-    (long_refused kind flags name text.0 past, none_written before after none) file none same
+    inner_does (command_on kind flags form name) name given before after text.0 fault.TextTooLong (one_name kind flags form name) text.1
+    (long_refused kind flags form name text.0 past, none_written before after none) file none same
     (λ i. cc) (λ i. cc) (λ i. cc)
+
+-- a file was read as far as it may be, and so much of its text was answered
+pub front_does : (kind : CommandKind) (flags : Flags) (form : ReplyForm) (name : List ℕ) (given last : List Told) (before after : Outside)
+    (file : FileRead (command_on kind flags form name) name before.shelf after.shelf) (front : List ℕ) (answer : Result (Unit {0}) Fault) →
+    IfSome (before.shelf.texts name) (λ text. front ≡ take (file.limit + 1) text) →
+    (length front ≤ file.limit → AnswersOn (command_on kind flags form name) given last (front ∷ []) before.streams after.streams answer) →
+    (length front ≤ file.limit) ⊎ ((file.limit < length front) × (answer ≡ Err fault.TextTooLong) × (last ≡ given) × Untouched before after) →
+    ((other : List ℕ) → after.shelf.faults other ≡ before.shelf.faults other) → Does (command_on kind flags form name) given last before after answer
+front_does kind flags form name given last before after file front answer read answers (inl few) same =
+    text_does (command_on kind flags form name) name given last before after front answer (one_name kind flags form name)
+    (told_front file.limit (before.shelf.texts name) front read few) (answers few) file same
+front_does kind flags form name given last before after file front answer read answers (inr (many, is, kept, none)) same =
+    rw (is, kept) (long_does kind flags form name given before after file (long_front file.limit (before.shelf.texts name) front read many) none same)
+
+-- where neither stream was touched
+pub untouched_by : {I O A B C D : Type 0} (in_seen : I → SourceSeen) (out_seen : O → SinkSeen) (old new : I) (out_old out_new : O) →
+    A ⊎ (B × C × D × (new ≡ old) × (out_new ≡ out_old)) →
+    A ⊎ (B × C × D × (streams (in_seen new) (out_seen out_new) ≡ streams (in_seen old) (out_seen out_old)))
+untouched_by in_seen out_seen old new out_old out_new (inl a) = inl a
+untouched_by in_seen out_seen old new out_old out_new (inr (b, c, d, i, o)) = inr (b, c, d, rw (i, o) refl)
 
 -- a command that reads no file
 pub fileless_does : (c : Command) (given last : List Told) (before after : Outside) (answer : Result (Unit {0}) Fault) → names_of c ≡ [] →
@@ -250,14 +264,14 @@ none_in_order (Some (verify file steps)) shelf = source_alone (omega arith) (λ 
 none_in_order (Some c) shelf = tt
 
 -- a command on one file reads no second one
-pub file_in_order : (kind : CommandKind) (flags : Flags) (name : List ℕ) (before after : ShelfSeen) (status : Status) →
-    IsInOrder (command_on kind flags name) before after status
-file_in_order Compile flags name before after status = tt
-file_in_order Run flags name before after status = tt
-file_in_order Pre flags name before after status = tt
-file_in_order Check flags name before after status = tt
-file_in_order Exec flags name before after status = tt
-file_in_order Prove flags name before after status = tt
+pub file_in_order : (kind : CommandKind) (flags : Flags) (form : ReplyForm) (name : List ℕ) (before after : ShelfSeen) (status : Status) →
+    IsInOrder (command_on kind flags form name) before after status
+file_in_order Compile flags form name before after status = tt
+file_in_order Run flags form name before after status = tt
+file_in_order Pre flags form name before after status = tt
+file_in_order Check flags form name before after status = tt
+file_in_order Exec flags form name before after status = tt
+file_in_order Prove flags form name before after status = tt
 
 pub order_of : (command : Option Command) (before after : ShelfSeen) (known status : Status) → status ≡ known →
     IfSome command (λ c. IsInOrder c before after known) → IfSome command (λ c. IsInOrder c before after status)

@@ -15,7 +15,7 @@ use Rattle.cf_answer.specs.Owed.{Owes}
 use Rattle.cf_answer.specs.Passes.{closing}
 use Rattle.cf_answer.specs.Refusals.{Refuses, IsAccepted}
 use Rattle.cf_answer.specs.Statuses.{fault_status, status_of}
-use Rattle.cf_answer.specs.Texts.{answer_line}
+use Rattle.cf_answer.specs.Written.{IsWrittenBy}
 use Rattle.cf_answer.specs.declared.fault.Fault.{Fault}
 use Rattle.cf_answer.specs.declared.status.Status.{Status}
 use Rattle.cf_answer.specs.declared.status.Status.TheVariants.{Done, File, Input, Output, Limit, InputLong, NoMemory}
@@ -25,14 +25,16 @@ pub record IsTold (before after : SinkSeen) (text : List ℕ) : Type 0 where
   pub prefix : TookPrefix before.held after.held text
   pub whole : (after.faults ≡ one_more before.faults) ⊎ (Appends before.held after.held text × (after.faults ≡ before.faults))
 
--- an answer to the words, with passes that told this before; what they told last, its status and its line
+-- an answer to the words, with passes that told this before; what they told last, its status, and what is written of it
 pub record TopAnswer (command : Option Command) (given : List Told) (before after : Outside) (errors_before errors_after : SinkSeen) (status : Status) : Type 0
   where
     pub answer : Result (Unit {0}) Fault
     pub passes : List Told
     pub is : status ≡ status_of answer
     pub answers : Answers command given passes before after answer
-    pub told : IsTold errors_before errors_after (answer_line answer)
+    pub line : List ℕ
+    pub written : IsWrittenBy command before.shelf.texts answer line
+    pub told : IsTold errors_before errors_after line
 
 -- an input that is read is told, and within its limit; told, and past it
 abbrev pub IsShort : Option ℕ → Bool → Option (List ℕ) → Type 0

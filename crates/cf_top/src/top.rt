@@ -1,22 +1,26 @@
 //! The top call.
-ghost use Rattle.std.specs.Prelude.{◌≡◌, ◌⊎◌, ◌≤◌, ◌<◌, ◌^◌, ◌∷◌, ℕ, List, [], false, length, map, string_bytes, None, IfSome, IsSomeAnd, IsErrOf, Contains};
+ghost use Rattle.std.specs.Prelude.{◌≡◌, ◌⊎◌, ◌≤◌, ◌<◌, ◌+◌, ◌-◌, ◌^◌, ◌∷◌, ℕ, List, [], Some, None, Err, false, length, map, string_bytes, IfSome, IsSomeAnd, IsErrOf, Contains};
 ghost use Rattle.cf_io.specs.Causes.{Rose};
 ghost use Rattle.cf_words.specs.declared.command.Flags.{Flags};
+ghost use Rattle.cf_words.specs.declared.command.ReplyForm.{ReplyForm};
 ghost use Rattle.cf_answer.specs.Commands.{names_of, reads_input, text_most};
 ghost use Rattle.cf_answer.specs.Ends.{Answers, AnswersOn, Does, IsInOrder};
 ghost use Rattle.cf_answer.specs.Limits.{edition_for};
 ghost use Rattle.cf_answer.specs.Outside.{outside, streams};
 ghost use Rattle.cf_answer.specs.Statuses.{status_of as the_status_of, IsEarly};
+ghost use Rattle.cf_answer.specs.Written.{IsWrittenBy, line_of};
+ghost use Rattle.cf_answer.specs.declared.fault.Fault.TheVariants as faults;
+ghost use Rattle.cf_tree.specs.declared.base.Edition.TheVariants.{Two};
 ghost use Rattle.cf_top.specs.Top.{Completes, TopAnswer};
-ghost use Rattle.cf_words.specs.Commands.{command_on};
+ghost use Rattle.cf_words.specs.Commands.{command_on, file_command};
 ghost use Rattle.cf_words.specs.Words.{command_of, may_be_read};
 
 use cf_answer::{
-    Fault, Status, longest_text, longest_written, run_source, run_target, status_of, tell,
+    Ended, Fault, Status, longest_text, longest_written, run_source, run_target, status_of, tell,
     verify_files, write_blocks, write_checks, write_help, write_preconditions, write_target,
     write_version, write_workload,
 };
-use cf_io::{ReadFault, Shelf, Sink, Source, read_text};
+use cf_io::{FetchFault, Shelf, Sink, Source, read_front};
 use cf_pass::Pass;
 use cf_words::{Command, CommandKind, FileCommand, WordsFault, parse};
 use std::alloc::Global;
@@ -64,17 +68,15 @@ pub fn comfusy<F: Shelf, I: Source, O: Sink, E: Sink>(
     ensures order { IfSome (command_of (map string_bytes words.now)) (λ c. IsInOrder c (F.seen shelf.old) (F.seen shelf.new) result) }
 {
     let mut passes = passes;
-    let answer = answer_words(alloc, words, shelf, input, out, &mut passes);
-    let _ = tell(err, &answer);
-    status_of(&answer)
+    let ended = answer_words(alloc, words, shelf, input, out, &mut passes);
+    let _ = tell(err, &ended);
+    status_of(&ended.answer)
 }
 
-/// Does what the words ask for, and answers how it ended. It is all that `comfusy` does but for the line
-/// of `err`, and the one place where it hands the passes on. Since these are lent here, the contract tells
-/// what became of them: each was called once, by the commands that call them, or none was.
-///
-/// # Errors
-/// Why the call was refused, or which object failed; or want of memory.
+/// Does what the words ask for, and answers how it ended, with the message about a source that it
+/// refused. It is all that `comfusy` does but for what goes to `err`, and the one place where it hands the
+/// passes on. Since these are lent here, the contract tells what became of them: each was called once, by
+/// the commands that call them, or none was.
 pub fn answer_words<F: Shelf, I: Source, O: Sink>(
     alloc: Global,
     words: &[String],
@@ -82,31 +84,32 @@ pub fn answer_words<F: Shelf, I: Source, O: Sink>(
     input: &mut I,
     out: &mut O,
     passes: &mut Vec<Box<dyn Pass>>,
-) -> Result<(), Fault>
+) -> Ended
     ensures answers { Answers (command_of (map string_bytes words.now)) (map (λ p. told p) passes.old.items) (map (λ p. told p) passes.new.items)
-        (outside (F.seen shelf.old) (I.seen input.old) (O.seen out.old)) (outside (F.seen shelf.new) (I.seen input.new) (O.seen out.new)) result }
-    ensures usage { IsErrOf result Fault.Usage → command_of (map string_bytes words.now) ≡ None }
-    ensures early { may_be_read (map string_bytes words.now) ≡ false → IsErrOf result Fault.Usage }
+        (outside (F.seen shelf.old) (I.seen input.old) (O.seen out.old)) (outside (F.seen shelf.new) (I.seen input.new) (O.seen out.new)) result.answer }
+    ensures written { IsWrittenBy (command_of (map string_bytes words.now)) (F.seen shelf.old).texts result.answer (line_of result) }
+    ensures usage { IsErrOf result.answer Fault.Usage → command_of (map string_bytes words.now) ≡ None }
+    ensures early { may_be_read (map string_bytes words.now) ≡ false → IsErrOf result.answer Fault.Usage }
     ensures untouched { command_of (map string_bytes words.now) ≡ None → (shelf.new ≡ shelf.old) × (input.new ≡ input.old) × (out.new ≡ out.old) }
-    ensures shelf { IsErrOf result Fault.Usage → shelf.new ≡ shelf.old }
-    ensures unread { IsEarly (the_status_of result) → input.new ≡ input.old }
+    ensures shelf { IsErrOf result.answer Fault.Usage → shelf.new ≡ shelf.old }
+    ensures unread { IsEarly (the_status_of result.answer) → input.new ≡ input.old }
     ensures unasked { IfSome (command_of (map string_bytes words.now)) (λ c. reads_input c ≡ false → input.new ≡ input.old) }
     ensures unfetched { IfSome (command_of (map string_bytes words.now)) (λ c. names_of c ≡ [] → shelf.new ≡ shelf.old) }
-    ensures unwritten { IsEarly (the_status_of result) → out.new ≡ out.old }
-    ensures order { IfSome (command_of (map string_bytes words.now)) (λ c. IsInOrder c (F.seen shelf.old) (F.seen shelf.new) (the_status_of result)) }
+    ensures unwritten { IsEarly (the_status_of result.answer) → out.new ≡ out.old }
+    ensures order { IfSome (command_of (map string_bytes words.now)) (λ c. IsInOrder c (F.seen shelf.old) (F.seen shelf.new) (the_status_of result.answer)) }
 {
     match parse(alloc, words) {
         Ok(Command::OnFile(command)) => answer_file(alloc, &command, shelf, input, out, passes),
         Ok(Command::Verify { file, steps }) => verify_files(alloc, file, steps, shelf, out),
-        Ok(Command::Gen(size)) => write_workload(alloc, size, out, passes),
-        Ok(Command::Help) => write_help(out),
-        Ok(Command::Version) => write_version(out),
-        Err(WordsFault::Usage) => Err(Fault::Usage),
-        Err(WordsFault::NoMemory) => Err(Fault::NoMemory),
+        Ok(Command::Gen(size)) => Ended::plain(write_workload(alloc, size, out, passes)),
+        Ok(Command::Help) => Ended::plain(write_help(out)),
+        Ok(Command::Version) => Ended::plain(write_version(out)),
+        Err(WordsFault::Usage) => Ended::plain(Err(Fault::Usage)),
+        Err(WordsFault::NoMemory) => Ended::plain(Err(Fault::NoMemory)),
     }
 }
 
-// Reads the file, and does with it what the command asks.
+// Reads the file as far as it may be read, and does with it what the command asks.
 fn answer_file<F: Shelf, I: Source, O: Sink>(
     alloc: Global,
     command: &FileCommand<'_>,
@@ -114,26 +117,70 @@ fn answer_file<F: Shelf, I: Source, O: Sink>(
     input: &mut I,
     out: &mut O,
     passes: &mut Vec<Box<dyn Pass>>,
-) -> Result<(), Fault>
-    ensures does { Does (command_on command.now.kind command.now.flags command.now.file.now)
+) -> Ended
+    ensures does { Does (file_command command.now)
         (map (λ p. told p) passes.old.items) (map (λ p. told p) passes.new.items)
-        (outside (F.seen shelf.old) (I.seen input.old) (O.seen out.old)) (outside (F.seen shelf.new) (I.seen input.new) (O.seen out.new)) result }
+        (outside (F.seen shelf.old) (I.seen input.old) (O.seen out.old)) (outside (F.seen shelf.new) (I.seen input.new) (O.seen out.new)) result.answer }
+    ensures written { IsWrittenBy (Some (file_command command.now)) (F.seen shelf.old).texts result.answer
+        (line_of result) }
+    ensures usage { ¬ IsErrOf result.answer Fault.Usage }
+    ensures unread { IsEarly (the_status_of result.answer) → input.new ≡ input.old }
+    ensures unasked { reads_input (file_command command.now) ≡ false → input.new ≡ input.old }
+    ensures unwritten { IsEarly (the_status_of result.answer) → out.new ≡ out.old }
+{
+    let limit = longest_of(command.kind);
+    match read_front(alloc, shelf, command.file, limit + 1) {
+        Ok(front) => {
+            let answer = answer_front(alloc, command, &front, input, out, passes);
+            Ended::on_file(alloc, command, &front, out, answer)
+        }
+        Err(FetchFault::Failed) => Ended::plain(Err(Fault::File)),
+        Err(FetchFault::NoMemory) => Ended::plain(Err(Fault::NoMemory)),
+    }
+}
+
+// Does what the command asks with the text of a file, as far as it was read.
+fn answer_front<I: Source, O: Sink>(
+    alloc: Global,
+    command: &FileCommand<'_>,
+    front: &[u8],
+    input: &mut I,
+    out: &mut O,
+    passes: &mut Vec<Box<dyn Pass>>,
+) -> Result<(), Fault>
+    requires small { length front.now < 2 ^ 32 - 1 }
+    ensures answers { length front.now ≤ text_most (file_command command.now) Two →
+        AnswersOn (file_command command.now)
+        (map (λ p. told p) passes.old.items) (map (λ p. told p) passes.new.items) (front.now ∷ [])
+        (streams (I.seen input.old) (O.seen out.old)) (streams (I.seen input.new) (O.seen out.new)) result }
+    ensures long { (length front.now ≤ text_most (file_command command.now) Two) ⊎
+        ((text_most (file_command command.now) Two < length front.now) × (result ≡ Err faults.TextTooLong) ×
+        (map (λ p. told p) passes.new.items ≡ map (λ p. told p) passes.old.items) × (input.new ≡ input.old) × (out.new ≡ out.old)) }
     ensures usage { ¬ IsErrOf result Fault.Usage }
     ensures unread { IsEarly (the_status_of result) → input.new ≡ input.old }
-    ensures unasked { reads_input (command_on command.now.kind command.now.flags command.now.file.now) ≡ false → input.new ≡ input.old }
+    ensures unasked { reads_input (file_command command.now) ≡ false → input.new ≡ input.old }
     ensures unwritten { IsEarly (the_status_of result) → out.new ≡ out.old }
 {
-    match read_text(alloc, shelf, command.file, longest_of(command.kind)) {
-        Ok(text) => answer_text(alloc, command, &text, input, out, passes),
-        Err(ReadFault::Failed) => Err(Fault::File),
-        Err(ReadFault::TooLong) => Err(Fault::TextTooLong),
-        Err(ReadFault::NoMemory) => Err(Fault::NoMemory),
+    if front.len() > longest_of(command.kind) {
+        return Err(Fault::TextTooLong);
     }
+    if command.form.key || command.form.jsonl {
+        return Err(not_built());
+    }
+    answer_text(alloc, command, front, input, out, passes)
+}
+
+// Replies by key and as JSON are not built yet: memory counts as used up.
+fn not_built() -> Fault
+    ensures { result ≡ faults.NoMemory }
+{
+    Fault::NoMemory
 }
 
 // The most bytes of a file that a command takes. Which edition a target is of is known only when it was read.
 fn longest_of(kind: CommandKind) -> usize
-    ensures is { (flags : Flags) (file : List ℕ) (files : List (List ℕ)) → result ≡ text_most (command_on kind flags file) (edition_for files) }
+    ensures is { (flags : Flags) (form : ReplyForm) (file : List ℕ) (files : List (List ℕ)) →
+        result ≡ text_most (command_on kind flags form file) (edition_for files) }
     ensures small { result < 2 ^ 31 }
 {
     match kind {
@@ -155,13 +202,13 @@ fn answer_text<I: Source, O: Sink>(
     out: &mut O,
     passes: &mut Vec<Box<dyn Pass>>,
 ) -> Result<(), Fault>
-    requires short { length text.now ≤ text_most (command_on command.now.kind command.now.flags command.now.file.now) (edition_for (text.now ∷ [])) }
+    requires short { length text.now ≤ text_most (file_command command.now) (edition_for (text.now ∷ [])) }
     requires small { length text.now < 2 ^ 31 }
-    ensures answers { AnswersOn (command_on command.now.kind command.now.flags command.now.file.now)
+    ensures answers { AnswersOn (file_command command.now)
         (map (λ p. told p) passes.old.items) (map (λ p. told p) passes.new.items) (text.now ∷ [])
         (streams (I.seen input.old) (O.seen out.old)) (streams (I.seen input.new) (O.seen out.new)) result }
     ensures unread { IsEarly (the_status_of result) → input.new ≡ input.old }
-    ensures unasked { reads_input (command_on command.now.kind command.now.flags command.now.file.now) ≡ false → input.new ≡ input.old }
+    ensures unasked { reads_input (file_command command.now) ≡ false → input.new ≡ input.old }
     ensures unwritten { IsEarly (the_status_of result) → out.new ≡ out.old }
 {
     let flags = command.flags;

@@ -1,8 +1,12 @@
 mod AllowedExamples
 pub mod BaseLemmas
 mod CodeTypingExamples
+mod LeavesExamples
+pub mod LeavesLaws
 mod MeaningExamples
+mod OccursExamples
 mod OverPartsExamples
+mod OverTermsExamples
 mod RelationExamples
 pub mod OneOutcomeLemmas
 pub mod RisingLemmas

@@ -5,9 +5,11 @@ pub mod CodeView
 pub mod DefView
 pub mod ExprTree
 pub mod ExprView
+pub mod Leaves
 pub mod Meaning
 pub mod Numbers
 pub mod OverParts
+pub mod OverTerms
 pub mod RawTree
 pub mod RawView
 pub mod RelSize
@@ -21,6 +23,7 @@ pub mod Spelled
 pub mod Typing
 pub mod Values
 pub mod Words
+pub mod Occurs
 pub mod OneOutcome
 pub mod Params
 pub mod ChooseTree

@@ -1,43 +1,7 @@
 -- Forms whose parts are given, in the order in which they stand.
 use Rattle.std.specs.Prelude.{◌≡◌}
-use Rattle.cf_tree.specs.RelTree.{SetTree, union_of, inter_of, diff_of, TermTree, term_neg, term_add, term_sub, term_mul, term_div, term_mod, term_abs, RelTree, rel_same_set, rel_other_set, rel_subset, rel_and, rel_or}
 use Rattle.cf_tree.specs.ExprTree.{ExprTree, expr_set_of, expr_tuple, expr_min, expr_max, expr_neg, expr_not, expr_abs, expr_divides, expr_div, expr_mod, expr_card, expr_call, expr_binary, expr_let, ExprTrees}
 use Rattle.cf_tree.specs.RawTree.{RawTree, raw_set_of, raw_tuple, raw_min, raw_max, raw_group, raw_neg, raw_not, raw_abs, raw_divides, raw_div, raw_mod, raw_card, RawTrees}
-
--- an operation of two set forms
-abbrev pub IsSetOverTwo : SetTree → SetTree → SetTree → Type 0
-IsSetOverTwo (union_of a b) c d = (c ≡ a) × (d ≡ b)
-IsSetOverTwo (inter_of a b) c d = (c ≡ a) × (d ≡ b)
-IsSetOverTwo (diff_of a b) c d = (c ≡ a) × (d ≡ b)
-IsSetOverTwo _ c d = ⊥
-
--- a number form with one part that is a number form
-abbrev pub IsTermOverOne : TermTree → TermTree → Type 0
-IsTermOverOne (term_neg a) c = c ≡ a
-IsTermOverOne (term_div a k) c = c ≡ a
-IsTermOverOne (term_mod a k) c = c ≡ a
-IsTermOverOne (term_abs a) c = c ≡ a
-IsTermOverOne _ c = ⊥
-
--- a number form with two parts
-abbrev pub IsTermOverTwo : TermTree → TermTree → TermTree → Type 0
-IsTermOverTwo (term_add a b) c d = (c ≡ a) × (d ≡ b)
-IsTermOverTwo (term_sub a b) c d = (c ≡ a) × (d ≡ b)
-IsTermOverTwo (term_mul a b) c d = (c ≡ a) × (d ≡ b)
-IsTermOverTwo _ c d = ⊥
-
--- a relation of two set forms
-abbrev pub IsRelOverSets : RelTree → SetTree → SetTree → Type 0
-IsRelOverSets (rel_same_set a b) c d = (c ≡ a) × (d ≡ b)
-IsRelOverSets (rel_other_set a b) c d = (c ≡ a) × (d ≡ b)
-IsRelOverSets (rel_subset a b) c d = (c ≡ a) × (d ≡ b)
-IsRelOverSets _ c d = ⊥
-
--- a relation of two relations
-abbrev pub IsRelOverTwo : RelTree → RelTree → RelTree → Type 0
-IsRelOverTwo (rel_and a b) c d = (c ≡ a) × (d ≡ b)
-IsRelOverTwo (rel_or a b) c d = (c ≡ a) × (d ≡ b)
-IsRelOverTwo _ c d = ⊥
 
 -- an expression over a list
 abbrev pub IsExprOverList : ExprTree → ExprTrees → Type 0

@@ -7,9 +7,11 @@ mod code;
 mod copy;
 mod expr;
 mod forms;
+mod leaves;
 mod level;
 mod measure;
 mod memory;
+mod occurs;
 mod raw;
 mod rel;
 mod target;
@@ -20,8 +22,10 @@ pub use crate::choose::{Choose, bases};
 pub use crate::code::{Arm, Code, Item};
 pub use crate::copy::words::copy_params;
 pub use crate::expr::{Aim, Def, Expr, Given, MatchArm};
+pub use crate::leaves::Leaves;
 pub use crate::level::{add_u32, to_u32};
 pub use crate::memory::{NoMemory, without};
+pub use crate::occurs::rel_holds;
 pub use crate::raw::{
     BinOp, Number, Param, Part, Program, Raw, RawAim, RawArm, RawConst, RawDef, RawGiven, RawItem,
     RawNode,

@@ -11,7 +11,7 @@ use Rattle.cf_tree.specs.RelTree.{RelTree}
 use Rattle.cf_tree.specs.Values.{Value, number, elements_of, number_of, value_at, HasBase, HaveBases}
 use Rattle.cf_tree.proofs.SetLemmas.{on_bool}
 use Rattle.cf_linear.specs.Arm.{ColumnLevels, level_of, let_region, begun, search_names}
-use Rattle.cf_linear.specs.Layout.{Layout, layout_of, is_number, is_set, levels_with, rel_holds, masks, place, has_level, known_count, number_column}
+use Rattle.cf_linear.specs.Layout.{Layout, layout_of, is_set, masks, place, has_level, known_count, number_column}
 use Rattle.cf_linear.specs.Layout.{input_column}
 use Rattle.cf_venn.specs.Codes.{HoldsInputs}
 use Rattle.cf_venn.specs.Columns.{known_values}
@@ -20,7 +20,7 @@ use Rattle.cf_venn.specs.Masks.{sets_at}
 use Rattle.cf_venn.proofs.AgreeLaws.{at_place, place_later}
 use Rattle.cf_venn.proofs.ColumnLaws.{number_known, input_known}
 use Rattle.cf_venn.proofs.LetLaws.{region_lets_lead}
-use Rattle.cf_venn.proofs.LevelLaws.{Up, up_levels, up_filter, up_has, same_level, same_each, has_unfiltered, base_at, level_at, length_have, is_layout}
+use Rattle.cf_venn.proofs.LevelLaws.{Up, up_has, same_level, same_each, base_at, length_have, is_layout}
 
 -- ---- sets among parameters
 set_value : (b : Base) (v : Value) → is_set b ≡ true → HasBase b v → HasBase Set v
@@ -67,11 +67,10 @@ module _ (scope outs : List Base) (rel : RelTree) (bounds : List (ℕ × ℕ)) (
   inputs_held : HoldsInputs l (env ++ ks)
   unfolding l
   inputs_held x h =
-      let k = level_at is_set 0 scope x (has_unfiltered (λ y. rel_holds y rel) (levels_with is_set 0 scope) x h) in
-      let z : x - 0 ≡ x = omega arith in
-      let i = (is_layout scope outs rel).inputs x h in
+      let layout = is_layout scope outs rel in
+      let i = layout.inputs x h in
       let n = length_have scope env have in
-      let s : HasBase Set (value_at env x) = set_at scope env x have (rw z at k.1) in
+      let s : HasBase Set (value_at env x) = set_at scope env x have (layout.input_is x h) in
       (s.0, get_or-append env ks (number (pos 0)) x (omega arith) ∙ s.1, s.2)
 
   inputs_same : sets_at (env ++ ks) l.inputs ≡ sets_at env l.inputs
@@ -80,10 +79,6 @@ module _ (scope outs : List Base) (rel : RelTree) (bounds : List (ℕ × ℕ)) (
       let n = length_have scope env have in
       same_each (λ x. elements_of (value_at (env ++ ks) x)) (λ x. elements_of (value_at env x)) (layout_of scope outs rel).inputs
       (λ x h. let i = (is_layout scope outs rel).inputs x h in ap elements_of (get_or-append env ks (number (pos 0)) x (omega arith)))
-
-  numbers_up : Up 0 l.numbers
-  unfolding l
-  numbers_up = up_filter (λ x. rel_holds x rel) 0 (levels_with is_number 0 scope) (up_levels is_number 0 scope)
 
   after : List Value
   after = (env ++ ks) ++ region_values (sets_at env l.inputs) (masks (length l.inputs))
@@ -113,7 +108,7 @@ module _ (scope outs : List Base) (rel : RelTree) (bounds : List (ℕ × ℕ)) (
         | inr g ↦ (
             let i = c - 1 in
             let x = get_or l.numbers i 0 in
-            let p = place_at 0 l.numbers i numbers_up (omega arith) in
+            let p = place_at 0 l.numbers i layout.numbers_up (omega arith) in
             let first = layout.numbers x p.0 in
             let column : number_column l x ≡ c = rw p.0 (ap (λ j. 1 + j) p.1 ∙ omega arith) in
             let found : level_of names c ≡ x =

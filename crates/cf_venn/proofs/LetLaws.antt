@@ -12,12 +12,12 @@ use Rattle.cf_tree.specs.Meaning.{got, items_path}
 use Rattle.cf_tree.specs.Values.{Value, number, elements, elements_of, value_at}
 use Rattle.cf_tree.proofs.SetLemmas.{on_bool}
 use Rattle.cf_linear.specs.Arm.{ArmBuilder, level_of, region_code, let_region}
-use Rattle.cf_linear.specs.Layout.{Layout, layout_of, is_set, levels_with, rel_holds, has_level, input_column}
+use Rattle.cf_linear.specs.Layout.{Layout, layout_of, has_level, input_column}
 use Rattle.cf_venn.specs.Codes.{HoldsInputs}
 use Rattle.cf_venn.specs.Lets.{region_values, RegionLetsLead}
 use Rattle.cf_venn.specs.Masks.{sets_at, region, count}
 use Rattle.cf_venn.proofs.CodeLaws.{CodeGives, var_gives}
-use Rattle.cf_venn.proofs.LevelLaws.{Up, up_levels, up_filter, same_each, is_layout}
+use Rattle.cf_venn.proofs.LevelLaws.{Up, same_each, is_layout}
 use Rattle.cf_venn.proofs.RegionCodes.{region_gives}
 
 card_gives : (c : CodeTree) (e : List Value) (zs : List ℤ) → CodeGives c e (elements zs) → CodeGives (code_card c) e (number (pos (length zs)))
@@ -143,14 +143,13 @@ region_lets_lead scope outs rel k e inputs long s =
     let l = layout_of scope outs rel in
     let ins = sets_at e l.inputs in
     let n = 2 ^ length l.inputs - 1 in
-    let u = up_filter (λ x. rel_holds x rel) 0 (levels_with is_set 0 scope) (up_levels is_set 0 scope) in
     let layout = is_layout scope outs rel in
     let pairs = region_values ins (range_with_len 1 n) in
     let some = pow_pos (length l.inputs) in
     record {
       items = region_items l k.level 1 n;
       items_are = items_are l k 1 n;
-      leads = lead l 0 u n 1 e ins k.level s (λ x h. let i = layout.inputs x h in omega arith) inputs refl (omega arith) (omega arith);
+      leads = lead l 0 layout.inputs_up n 1 e ins k.level s (λ x h. let i = layout.inputs x h in omega arith) inputs refl (omega arith) (omega arith);
       level_is = let a = level_is l k 1 n in let b = length-append e pairs in let c = length_pairs ins 1 n in omega arith;
       regions = λ m i j. later_value e pairs (k.level + 2 * (m - 1)) (2 * (m - 1)) (omega arith) ∙ region_at ins 1 n m i (omega arith);
       counts = λ m i j.

@@ -5,11 +5,12 @@ use Rattle.std.specs.List.{range_with_len}
 use Rattle.std.proofs.lemmas.Bool.{cond_both, eq-eqb, ne_eqb, eqb-true}
 use Rattle.cf_tree.specs.declared.base.Base.{Base}
 use Rattle.cf_tree.specs.declared.base.Base.TheVariants.{Int, Bool as Truth, Set}
+use Rattle.cf_tree.specs.Occurs.{rel_holds}
 use Rattle.cf_tree.specs.RelTree.{RelTree}
 use Rattle.cf_tree.specs.Sets.{IsRising}
 use Rattle.cf_tree.specs.Values.{Value, elements_of, value_at, HasBase, HaveBases}
 use Rattle.cf_tree.proofs.SetLemmas.{on_bool}
-use Rattle.cf_linear.specs.Layout.{Layout, is_number, is_set, levels_with, layout_of, rel_holds, place, has_level}
+use Rattle.cf_linear.specs.Layout.{Layout, is_number, is_set, levels_with, layout_of, place, has_level}
 use Rattle.cf_venn.specs.Laws.{AreOutputs}
 use Rattle.cf_venn.proofs.AgreeLaws.{place_later}
 
@@ -174,11 +175,15 @@ have_listed f n (Set ∷ bs) o h k =
     )
 
 -- ---- layouts
--- parameters stand in the scope, and outputs after it, the sets among them in order
+-- parameters stand in the scope, in order, numbers and sets by their bases there, and outputs after it, the sets among them in order
 pub record IsLayout (scope outputs : List Base) (l : Layout) : Type 0 where
   pub scope_is : l.scope ≡ length scope
   pub numbers : (x : ℕ) → has_level l.numbers x ≡ true → x < length scope
   pub inputs : (x : ℕ) → has_level l.inputs x ≡ true → x < length scope
+  pub number_is : (x : ℕ) → has_level l.numbers x ≡ true → base_at is_number scope x ≡ true
+  pub input_is : (x : ℕ) → has_level l.inputs x ≡ true → base_at is_set scope x ≡ true
+  pub numbers_up : Up 0 l.numbers
+  pub inputs_up : Up 0 l.inputs
   pub out_numbers : (x : ℕ) → has_level l.out_numbers x ≡ true → (length scope ≤ x) × (x < length scope + length outputs)
   pub out_sets : (x : ℕ) → has_level l.out_sets x ≡ true → (length scope ≤ x) × (x < length scope + length outputs) × (has_level l.out_numbers x ≡ false)
   pub up : Up (length scope) l.out_sets
@@ -186,13 +191,19 @@ pub record IsLayout (scope outputs : List Base) (l : Layout) : Type 0 where
 pub is_layout : (scope outputs : List Base) (rel : RelTree) → IsLayout scope outputs (layout_of scope outputs rel)
 is_layout scope outputs rel =
     let n = length scope in
-    let early : (p : Base → Bool) (x : ℕ) → has_level (filter (λ y. rel_holds y rel) (levels_with p 0 scope)) x ≡ true → x < n =
-    λ p x h. (let k = level_at p 0 scope x (has_unfiltered (λ y. rel_holds y rel) (levels_with p 0 scope) x h) in let w = base_within p scope (x - 0) k.1 in
-    omega arith) in
+    let passes : (p : Base → Bool) (x : ℕ) → has_level (filter (λ y. rel_holds y rel) (levels_with p 0 scope)) x ≡ true → base_at p scope x ≡ true =
+    λ p x h. (let k = level_at p 0 scope x (has_unfiltered (λ y. rel_holds y rel) (levels_with p 0 scope) x h) in let z : x - 0 ≡ x = omega arith in
+    rw z at k.1) in
+    let rise : (p : Base → Bool) → Up 0 (filter (λ y. rel_holds y rel) (levels_with p 0 scope)) =
+    λ p. up_filter (λ y. rel_holds y rel) 0 (levels_with p 0 scope) (up_levels p 0 scope) in
     record {
       scope_is = refl;
-      numbers = early is_number;
-      inputs = early is_set;
+      numbers = λ x h. base_within is_number scope x (passes is_number x h);
+      inputs = λ x h. base_within is_set scope x (passes is_set x h);
+      number_is = passes is_number;
+      input_is = passes is_set;
+      numbers_up = rise is_number;
+      inputs_up = rise is_set;
       out_numbers = λ x h. let k = level_at is_number n outputs x h in let w = base_within is_number outputs (x - n) k.1 in let l = k.0 in (l, omega arith);
       out_sets = λ x h.
           let k = level_at is_set n outputs x h in

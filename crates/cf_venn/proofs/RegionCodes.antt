@@ -13,13 +13,13 @@ use Rattle.cf_tree.specs.Values.{Value, elements, elements_of, value_at}
 use Rattle.cf_tree.proofs.SetLemmas.{on_bool, has-filter, has-inter, has-diff}
 use Rattle.cf_tree.proofs.RisingLemmas.{rising_ext, rising_filter}
 use Rattle.cf_linear.specs.Arm.{inter_of_all, vars, sets_in, sets_out, region_code}
-use Rattle.cf_linear.specs.Layout.{Layout, bit, is_set, levels_with, layout_of, rel_holds, place, has_level}
+use Rattle.cf_linear.specs.Layout.{Layout, bit, layout_of, place, has_level}
 use Rattle.cf_cases.specs.Holding.{EachOf}
 use Rattle.cf_venn.specs.Codes.{HoldsInputs, RegionCodesMean}
 use Rattle.cf_venn.specs.Masks.{sets_at, AreRising, mask, union_all, region}
 use Rattle.cf_venn.proofs.MaskLemmas.{in_union_all, rising_union_all}
 use Rattle.cf_venn.proofs.AgreeLaws.{place_later}
-use Rattle.cf_venn.proofs.LevelLaws.{Up, up_has, up_levels, up_filter, same_level, has_unfiltered}
+use Rattle.cf_venn.proofs.LevelLaws.{Up, up_has, same_level, has_unfiltered, is_layout}
 use Rattle.cf_venn.proofs.CodeLaws.{CodeGives, joins, join_gives, each_level, input_gives, input_rises, each_rises}
 
 -- ---- what the codes give
@@ -200,6 +200,4 @@ module _ (l : Layout) (e : List Value) (inputs : HoldsInputs l e) (lo : ℕ) (u 
 
 pub region_codes_mean : RegionCodesMean
 region_codes_mean scope outs rel e inputs m z below =
-    let l = layout_of scope outs rel in
-    let u = up_filter (λ x. rel_holds x rel) 0 (levels_with is_set 0 scope) (up_levels is_set 0 scope) in
-    ap outcome_of (region_gives l e inputs 0 u m z below)
+    ap outcome_of (region_gives (layout_of scope outs rel) e inputs 0 (is_layout scope outs rel).inputs_up m z below)

@@ -8,11 +8,11 @@ use Rattle.cf_num.specs.Limit.{IsWithin}
 use Rattle.cf_tree.specs.declared.base.Base.{Base}
 use Rattle.cf_tree.specs.declared.base.Base.TheVariants.{Int}
 use Rattle.cf_tree.specs.Numbers.{quotient}
+use Rattle.cf_tree.specs.Occurs.{rel_holds}
 use Rattle.cf_tree.specs.Relation.{Holds, IsTyped, IsLinear}
 use Rattle.cf_tree.specs.RelTree.{RelTree}
 use Rattle.cf_tree.specs.Typing.{one}
 use Rattle.cf_tree.specs.Values.{Value, number}
-use Rattle.cf_linear.specs.Layout.{rel_holds}
 use Rattle.cf_cases.proofs.GuardLaws.{quotient_from_rows}
 use Rattle.cf_choose.specs.Solved.{IsOutput}
 use Rattle.cf_match.specs.declared.class.Class.{Class}

@@ -6,13 +6,14 @@ use Rattle.std.proofs.Math.ListN.{get_or-append}
 use Rattle.cf_tree.specs.declared.base.Base.{Base}
 use Rattle.cf_tree.specs.CodeTree.{CodeTree, code_var, code_diff}
 use Rattle.cf_tree.specs.Meaning.{got}
+use Rattle.cf_tree.specs.Occurs.{rel_holds}
 use Rattle.cf_tree.specs.Relation.{members, val}
 use Rattle.cf_tree.specs.RelTree.{SetTree, set_var, inter_of, diff_of, TermTree, term_lit, term_var, term_card, RelTree}
 use Rattle.cf_tree.specs.Sets.{set_inter, set_diff}
 use Rattle.cf_tree.specs.Values.{Value, number, elements, elements_of, number_of, value_at, HaveBases}
 use Rattle.cf_tree.proofs.SetLemmas.{on_bool}
 use Rattle.cf_linear.specs.Arm.{inter_of_all as codes_joined, vars, sets_in, sets_out, region_code}
-use Rattle.cf_linear.specs.Layout.{Layout, layout_of, is_number, is_set, levels_with, rel_holds, masks, place, has_level, bit}
+use Rattle.cf_linear.specs.Layout.{Layout, layout_of, is_number, is_set, levels_with, masks, place, has_level, bit}
 use Rattle.cf_cases.specs.Holding.{EachOf}
 use Rattle.cf_venn.specs.Codes.{HoldsInputs}
 use Rattle.cf_venn.specs.Columns.{known_values}
@@ -20,7 +21,7 @@ use Rattle.cf_venn.specs.Masks.{sets_at, region, count}
 use Rattle.cf_venn.proofs.AgreeLaws.{at_place}
 use Rattle.cf_venn.proofs.CodeLaws.{CodeGives, joins, join_gives, each_level, input_gives}
 use Rattle.cf_venn.proofs.ColumnLaws.{place_within}
-use Rattle.cf_venn.proofs.LevelLaws.{same_each, up_levels, up_filter, has_unfiltered, is_layout}
+use Rattle.cf_venn.proofs.LevelLaws.{same_each, has_unfiltered, is_layout}
 use Rattle.cf_venn.proofs.RegionCodes.{region_gives}
 use Rattle.cf_choose.proofs.RegionLets.{holds_inputs, inputs_typed}
 use Rattle.cf_warn.specs.Missing.{inter_of_all, region_form, first_forms}
@@ -141,14 +142,13 @@ module _ (scope outputs : List Base) (rel : RelTree) (env lets : List Value) (ha
   count_is : (m : ℕ) → 1 ≤ m → m < 1 + (2 ^ length l.inputs - 1) → val (term_card (region_form l to m)) question ≡ pos (count (sets_at env l.inputs) m)
   count_is m a b =
       let some = pow_pos (length l.inputs) in
-      let u = up_filter (λ x. rel_holds x rel) 0 (levels_with is_set 0 scope) (up_levels is_set 0 scope) in
       let f : ℕ → List ℤ = λ x. elements_of (value_at env x) in
       ap (λ (zs : List ℤ). pos (length zs))
       (region_members question to l m
       ∙ ap₂ (λ xs ys. fold set_diff (joins set_inter xs) ys)
       (same_each (seen question to) f (sets_in l m) (input_at (λ x. bit (place x l.inputs) m)))
       (same_each (seen question to) f (sets_out l m) (input_at (λ x. not (bit (place x l.inputs) m))))
-      ∙ region_is l env inputs m (region_gives l env inputs 0 u m a (omega arith)))
+      ∙ region_is l env inputs m (region_gives l env inputs 0 (is_layout scope outputs rel).inputs_up m a (omega arith)))
 
   pub first_agree : Agree question (first_forms l to) (known_values l env)
   first_agree c =

@@ -16,7 +16,7 @@ use Rattle.cf_tree.specs.Solving.{IsBelow}
 use Rattle.cf_tree.specs.Typing.{AreBounds}
 use Rattle.cf_tree.proofs.TupleLemmas.{tuples_numbered}
 use Rattle.cf_linear.specs.Arm.{sets_in, sets_out}
-use Rattle.cf_linear.specs.Layout.{Layout, is_number, levels_with, rel_holds, layout_of, masks, place, has_level, bit}
+use Rattle.cf_linear.specs.Layout.{Layout, is_number, layout_of, masks, place, has_level, bit}
 use Rattle.cf_linear.specs.Rows.{Row, AreWithin}
 use Rattle.cf_linear.specs.Solved.{let_columns}
 use Rattle.cf_linear.specs.Systems.{Step, floor_of, need_nonneg, need_zero, need_divides, System, Answer}
@@ -27,7 +27,7 @@ use Rattle.cf_elim.proofs.StageSmall.{StepsSmall}
 use Rattle.cf_venn.proofs.AgreeLaws.{at_place}
 use Rattle.cf_venn.proofs.CodeLaws.{each_level}
 use Rattle.cf_venn.proofs.ColumnLaws.{place_within}
-use Rattle.cf_venn.proofs.LevelLaws.{base_at as passes_at, level_at, has_unfiltered}
+use Rattle.cf_venn.proofs.LevelLaws.{base_at as passes_at, has_unfiltered, is_layout}
 use Rattle.cf_choose.specs.Laws.{IsUnrefused}
 use Rattle.cf_choose.proofs.RegionLets.{inputs_typed}
 use Rattle.cf_warn.specs.Questions.{parameters, base_at, parameter_bases, halves}
@@ -259,9 +259,7 @@ module _ (scope outputs : List Base) (rel : RelTree) (u : IsUnrefused scope outp
 
   number_at : (x : ℕ) → has_level (layout_of scope outputs rel).numbers x ≡ true → slice_get bases (place x params) ≡ Some Int
   number_at x h =
-      let k = level_at is_number 0 scope x (has_unfiltered (λ y. rel_holds y rel) (levels_with is_number 0 scope) x h) in
-      let z : x - 0 ≡ x = omega arith in
-      parameter_base x Int (number_parameter scope outputs rel x h) (number_is scope x (rw z at k.1))
+      parameter_base x Int (number_parameter scope outputs rel x h) (number_is scope x ((is_layout scope outputs rel).number_is x h))
 
   input_at : (x : ℕ) → has_level (layout_of scope outputs rel).inputs x ≡ true → slice_get bases (place x params) ≡ Some Set
   input_at x h =

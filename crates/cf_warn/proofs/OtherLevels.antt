@@ -1,22 +1,16 @@
 -- Relations over other levels: their meaning, their types, and what is linear.
-use Rattle.std.proofs.Common.{inl, inr, ◌≡◌, ◌≢◌, ◌↔◌, ℕ, ℤ, pos, ◌+ℤ◌, ◌-ℤ◌, ◌*ℤ◌, neg_ℤ, ◌==◌, Bool, true, false, ◌&&◌, ◌||◌, List, length, slice_get, subst, refl, sym, ap, ap₂, ◌∙◌}
+use Rattle.std.proofs.Common.{inl, inr, ◌≡◌, ◌≢◌, ◌↔◌, ℕ, ℤ, pos, ◌+ℤ◌, ◌-ℤ◌, ◌*ℤ◌, neg_ℤ, ◌==◌, true, ◌&&◌, ◌||◌, List, length, slice_get, subst, refl, sym, ap, ap₂, ◌∙◌}
 use Rattle.std.specs.Prelude.{IsTrue}
 use Rattle.std.proofs.lemmas.Bool.{eq-eqb}
 use Rattle.cf_tree.specs.declared.base.Base.{Base}
 use Rattle.cf_tree.specs.Numbers.{quotient, remainder, absolute, Compares}
+use Rattle.cf_tree.specs.Occurs.{set_holds, term_holds, rel_holds}
 use Rattle.cf_tree.specs.Relation.{members, val, Holds, is_fixed, IsLinearTerm, IsLinear, IsTypedSet, IsTypedTerm, IsTyped}
 use Rattle.cf_tree.specs.RelTree.{SetTree, empty_set, set_var, union_of, inter_of, diff_of, TermTree, term_lit, term_var, term_card, term_neg, term_add, term_sub, term_mul, term_div, term_mod, term_abs, RelTree, rel_true, rel_false, rel_compare, rel_same_set, rel_other_set, rel_subset, rel_divides, rel_and, rel_or, rel_not}
 use Rattle.cf_tree.specs.Sets.{set_union, set_inter, set_diff, has}
 use Rattle.cf_tree.specs.Values.{Value, elements_of, number_of, value_at}
-use Rattle.cf_linear.specs.Layout.{set_holds, term_holds, rel_holds}
+use Rattle.cf_linear.proofs.PassingLemmas.{or_left, or_right}
 use Rattle.cf_warn.specs.Questions.{set_at, term_at, rel_at}
-
-pub on_left : (a b : Bool) → a ≡ true → (a || b) ≡ true
-on_left a b h = rw h refl
-
-pub on_right : (a b : Bool) → b ≡ true → (a || b) ≡ true
-on_right true b h = refl
-on_right false b h = h
 
 itself : (x : ℕ) → (x == x) ≡ true
 itself x = eq-eqb x x refl
@@ -34,14 +28,14 @@ module _ (to : ℕ → ℕ) (env other : List Value) where
   members-at empty_set h = refl
   members-at (set_var x) h = ap elements_of (h x (itself x))
   members-at (union_of a b) h =
-      ap₂ set_union (members-at a (λ x k. h x (on_left (set_holds x a) (set_holds x b) k)))
-      (members-at b (λ x k. h x (on_right (set_holds x a) (set_holds x b) k)))
+      ap₂ set_union (members-at a (λ x k. h x (or_left (set_holds x a) (set_holds x b) k)))
+      (members-at b (λ x k. h x (or_right (set_holds x a) (set_holds x b) k)))
   members-at (inter_of a b) h =
-      ap₂ set_inter (members-at a (λ x k. h x (on_left (set_holds x a) (set_holds x b) k)))
-      (members-at b (λ x k. h x (on_right (set_holds x a) (set_holds x b) k)))
+      ap₂ set_inter (members-at a (λ x k. h x (or_left (set_holds x a) (set_holds x b) k)))
+      (members-at b (λ x k. h x (or_right (set_holds x a) (set_holds x b) k)))
   members-at (diff_of a b) h =
-      ap₂ set_diff (members-at a (λ x k. h x (on_left (set_holds x a) (set_holds x b) k)))
-      (members-at b (λ x k. h x (on_right (set_holds x a) (set_holds x b) k)))
+      ap₂ set_diff (members-at a (λ x k. h x (or_left (set_holds x a) (set_holds x b) k)))
+      (members-at b (λ x k. h x (or_right (set_holds x a) (set_holds x b) k)))
 
   val-at : (t : TermTree) → ((x : ℕ) → term_holds x t ≡ true → value_at other (to x) ≡ value_at env x) → val (term_at to t) other ≡ val t env
   val-at (term_lit n) h = refl
@@ -49,14 +43,14 @@ module _ (to : ℕ → ℕ) (env other : List Value) where
   val-at (term_card s) h = ap (λ zs. pos (length zs)) (members-at s h)
   val-at (term_neg a) h = ap neg_ℤ (val-at a h)
   val-at (term_add a b) h =
-      ap₂ (λ y z. y +ℤ z) (val-at a (λ x k. h x (on_left (term_holds x a) (term_holds x b) k)))
-      (val-at b (λ x k. h x (on_right (term_holds x a) (term_holds x b) k)))
+      ap₂ (λ y z. y +ℤ z) (val-at a (λ x k. h x (or_left (term_holds x a) (term_holds x b) k)))
+      (val-at b (λ x k. h x (or_right (term_holds x a) (term_holds x b) k)))
   val-at (term_sub a b) h =
-      ap₂ (λ y z. y -ℤ z) (val-at a (λ x k. h x (on_left (term_holds x a) (term_holds x b) k)))
-      (val-at b (λ x k. h x (on_right (term_holds x a) (term_holds x b) k)))
+      ap₂ (λ y z. y -ℤ z) (val-at a (λ x k. h x (or_left (term_holds x a) (term_holds x b) k)))
+      (val-at b (λ x k. h x (or_right (term_holds x a) (term_holds x b) k)))
   val-at (term_mul a b) h =
-      ap₂ (λ y z. y *ℤ z) (val-at a (λ x k. h x (on_left (term_holds x a) (term_holds x b) k)))
-      (val-at b (λ x k. h x (on_right (term_holds x a) (term_holds x b) k)))
+      ap₂ (λ y z. y *ℤ z) (val-at a (λ x k. h x (or_left (term_holds x a) (term_holds x b) k)))
+      (val-at b (λ x k. h x (or_right (term_holds x a) (term_holds x b) k)))
   val-at (term_div a k) h = ap (λ z. quotient z k) (val-at a h)
   val-at (term_mod a k) h = ap (λ z. remainder z k) (val-at a h)
   val-at (term_abs a) h = ap absolute (val-at a h)
@@ -66,25 +60,25 @@ module _ (to : ℕ → ℕ) (env other : List Value) where
   holds-at rel_false h = (λ u. u, λ u. u)
   holds-at (rel_compare o a b) h =
       same_two (Compares o) (val (term_at to a) other) (val a env) (val (term_at to b) other) (val b env)
-      (val-at a (λ x k. h x (on_left (term_holds x a) (term_holds x b) k))) (val-at b (λ x k. h x (on_right (term_holds x a) (term_holds x b) k)))
+      (val-at a (λ x k. h x (or_left (term_holds x a) (term_holds x b) k))) (val-at b (λ x k. h x (or_right (term_holds x a) (term_holds x b) k)))
   holds-at (rel_same_set a b) h =
       same_two (λ xs ys. xs ≡ ys) (members (set_at to a) other) (members a env) (members (set_at to b) other) (members b env)
-      (members-at a (λ x k. h x (on_left (set_holds x a) (set_holds x b) k))) (members-at b (λ x k. h x (on_right (set_holds x a) (set_holds x b) k)))
+      (members-at a (λ x k. h x (or_left (set_holds x a) (set_holds x b) k))) (members-at b (λ x k. h x (or_right (set_holds x a) (set_holds x b) k)))
   holds-at (rel_other_set a b) h =
       same_two (λ xs ys. xs ≢ ys) (members (set_at to a) other) (members a env) (members (set_at to b) other) (members b env)
-      (members-at a (λ x k. h x (on_left (set_holds x a) (set_holds x b) k))) (members-at b (λ x k. h x (on_right (set_holds x a) (set_holds x b) k)))
+      (members-at a (λ x k. h x (or_left (set_holds x a) (set_holds x b) k))) (members-at b (λ x k. h x (or_right (set_holds x a) (set_holds x b) k)))
   holds-at (rel_subset a b) h =
       same_two (λ xs ys. (x : ℤ) → has xs x ≡ true → has ys x ≡ true) (members (set_at to a) other) (members a env) (members (set_at to b) other)
       (members b env)
-      (members-at a (λ x k. h x (on_left (set_holds x a) (set_holds x b) k))) (members-at b (λ x k. h x (on_right (set_holds x a) (set_holds x b) k)))
+      (members-at a (λ x k. h x (or_left (set_holds x a) (set_holds x b) k))) (members-at b (λ x k. h x (or_right (set_holds x a) (set_holds x b) k)))
   holds-at (rel_divides k t) h = same_one (λ z. (q : ℤ) × (z ≡ k *ℤ q)) (val (term_at to t) other) (val t env) (val-at t h)
   holds-at (rel_and a b) h =
-      let p = holds-at a (λ x k. h x (on_left (rel_holds x a) (rel_holds x b) k)) in
-      let q = holds-at b (λ x k. h x (on_right (rel_holds x a) (rel_holds x b) k)) in
+      let p = holds-at a (λ x k. h x (or_left (rel_holds x a) (rel_holds x b) k)) in
+      let q = holds-at b (λ x k. h x (or_right (rel_holds x a) (rel_holds x b) k)) in
       (λ u. (p.0 u.0, q.0 u.1), λ u. (p.1 u.0, q.1 u.1))
   holds-at (rel_or a b) h =
-      let p = holds-at a (λ x k. h x (on_left (rel_holds x a) (rel_holds x b) k)) in
-      let q = holds-at b (λ x k. h x (on_right (rel_holds x a) (rel_holds x b) k)) in
+      let p = holds-at a (λ x k. h x (or_left (rel_holds x a) (rel_holds x b) k)) in
+      let q = holds-at b (λ x k. h x (or_right (rel_holds x a) (rel_holds x b) k)) in
       (λ u. elim u [ inl v ↦ inl (p.0 v) | inr v ↦ inr (q.0 v) ], λ u. elim u [ inl v ↦ inl (p.1 v) | inr v ↦ inr (q.1 v) ])
   holds-at (rel_not a) h = let p = holds-at a h in (λ u v. u (p.1 v), λ u v. u (p.0 v))
 
@@ -95,18 +89,18 @@ module _ (to : ℕ → ℕ) (scope other : List Base) where
   typed_set-at empty_set h t = tt
   typed_set-at (set_var x) h t = h x (itself x) ∙ t
   typed_set-at (union_of a b) h t = (
-    typed_set-at a (λ x k. h x (on_left (set_holds x a) (set_holds x b) k)) t.0,
-    typed_set-at b (λ x k. h x (on_right (set_holds x a) (set_holds x b) k))
+    typed_set-at a (λ x k. h x (or_left (set_holds x a) (set_holds x b) k)) t.0,
+    typed_set-at b (λ x k. h x (or_right (set_holds x a) (set_holds x b) k))
         t.1,
   )
   typed_set-at (inter_of a b) h t = (
-    typed_set-at a (λ x k. h x (on_left (set_holds x a) (set_holds x b) k)) t.0,
-    typed_set-at b (λ x k. h x (on_right (set_holds x a) (set_holds x b) k))
+    typed_set-at a (λ x k. h x (or_left (set_holds x a) (set_holds x b) k)) t.0,
+    typed_set-at b (λ x k. h x (or_right (set_holds x a) (set_holds x b) k))
         t.1,
   )
   typed_set-at (diff_of a b) h t = (
-    typed_set-at a (λ x k. h x (on_left (set_holds x a) (set_holds x b) k)) t.0,
-    typed_set-at b (λ x k. h x (on_right (set_holds x a) (set_holds x b) k))
+    typed_set-at a (λ x k. h x (or_left (set_holds x a) (set_holds x b) k)) t.0,
+    typed_set-at b (λ x k. h x (or_right (set_holds x a) (set_holds x b) k))
         t.1,
   )
 
@@ -117,16 +111,16 @@ module _ (to : ℕ → ℕ) (scope other : List Base) where
   typed_term-at (term_card s) h t = typed_set-at s h t
   typed_term-at (term_neg a) h t = typed_term-at a h t
   typed_term-at (term_add a b) h t = (
-    typed_term-at a (λ x k. h x (on_left (term_holds x a) (term_holds x b) k)) t.0,
-    typed_term-at b (λ x k. h x (on_right (term_holds x a) (term_holds x b) k)) t.1,
+    typed_term-at a (λ x k. h x (or_left (term_holds x a) (term_holds x b) k)) t.0,
+    typed_term-at b (λ x k. h x (or_right (term_holds x a) (term_holds x b) k)) t.1,
   )
   typed_term-at (term_sub a b) h t = (
-    typed_term-at a (λ x k. h x (on_left (term_holds x a) (term_holds x b) k)) t.0,
-    typed_term-at b (λ x k. h x (on_right (term_holds x a) (term_holds x b) k)) t.1,
+    typed_term-at a (λ x k. h x (or_left (term_holds x a) (term_holds x b) k)) t.0,
+    typed_term-at b (λ x k. h x (or_right (term_holds x a) (term_holds x b) k)) t.1,
   )
   typed_term-at (term_mul a b) h t = (
-    typed_term-at a (λ x k. h x (on_left (term_holds x a) (term_holds x b) k)) t.0,
-    typed_term-at b (λ x k. h x (on_right (term_holds x a) (term_holds x b) k)) t.1,
+    typed_term-at a (λ x k. h x (or_left (term_holds x a) (term_holds x b) k)) t.0,
+    typed_term-at b (λ x k. h x (or_right (term_holds x a) (term_holds x b) k)) t.1,
   )
   typed_term-at (term_div a k) h t = (typed_term-at a h t.0, t.1)
   typed_term-at (term_mod a k) h t = (typed_term-at a h t.0, t.1)
@@ -136,29 +130,29 @@ module _ (to : ℕ → ℕ) (scope other : List Base) where
   typed-at rel_true h t = tt
   typed-at rel_false h t = tt
   typed-at (rel_compare o a b) h t = (
-    typed_term-at a (λ x k. h x (on_left (term_holds x a) (term_holds x b) k)) t.0,
-    typed_term-at b (λ x k. h x (on_right (term_holds x a) (term_holds x b) k)) t.1,
+    typed_term-at a (λ x k. h x (or_left (term_holds x a) (term_holds x b) k)) t.0,
+    typed_term-at b (λ x k. h x (or_right (term_holds x a) (term_holds x b) k)) t.1,
   )
   typed-at (rel_same_set a b) h t = (
-    typed_set-at a (λ x k. h x (on_left (set_holds x a) (set_holds x b) k)) t.0,
-    typed_set-at b (λ x k. h x (on_right (set_holds x a) (set_holds x b) k))
+    typed_set-at a (λ x k. h x (or_left (set_holds x a) (set_holds x b) k)) t.0,
+    typed_set-at b (λ x k. h x (or_right (set_holds x a) (set_holds x b) k))
         t.1,
   )
   typed-at (rel_other_set a b) h t = (
-    typed_set-at a (λ x k. h x (on_left (set_holds x a) (set_holds x b) k)) t.0,
-    typed_set-at b (λ x k. h x (on_right (set_holds x a) (set_holds x b) k))
+    typed_set-at a (λ x k. h x (or_left (set_holds x a) (set_holds x b) k)) t.0,
+    typed_set-at b (λ x k. h x (or_right (set_holds x a) (set_holds x b) k))
         t.1,
   )
   typed-at (rel_subset a b) h t = (
-    typed_set-at a (λ x k. h x (on_left (set_holds x a) (set_holds x b) k)) t.0,
-    typed_set-at b (λ x k. h x (on_right (set_holds x a) (set_holds x b) k))
+    typed_set-at a (λ x k. h x (or_left (set_holds x a) (set_holds x b) k)) t.0,
+    typed_set-at b (λ x k. h x (or_right (set_holds x a) (set_holds x b) k))
         t.1,
   )
   typed-at (rel_divides k u) h t = (t.0, typed_term-at u h t.1)
   typed-at (rel_and a b) h t =
-      (typed-at a (λ x k. h x (on_left (rel_holds x a) (rel_holds x b) k)) t.0, typed-at b (λ x k. h x (on_right (rel_holds x a) (rel_holds x b) k)) t.1)
+      (typed-at a (λ x k. h x (or_left (rel_holds x a) (rel_holds x b) k)) t.0, typed-at b (λ x k. h x (or_right (rel_holds x a) (rel_holds x b) k)) t.1)
   typed-at (rel_or a b) h t =
-      (typed-at a (λ x k. h x (on_left (rel_holds x a) (rel_holds x b) k)) t.0, typed-at b (λ x k. h x (on_right (rel_holds x a) (rel_holds x b) k)) t.1)
+      (typed-at a (λ x k. h x (or_left (rel_holds x a) (rel_holds x b) k)) t.0, typed-at b (λ x k. h x (or_right (rel_holds x a) (rel_holds x b) k)) t.1)
   typed-at (rel_not a) h t = typed-at a h t
 
 -- ---- what is linear

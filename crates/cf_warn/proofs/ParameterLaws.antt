@@ -7,18 +7,20 @@ use Rattle.std.proofs.lemmas.List.{length-map}
 use Rattle.std.proofs.lemmas.Option.{slice_get_within, slice_get-get_or}
 use Rattle.cf_tree.specs.declared.base.Base.{Base}
 use Rattle.cf_tree.specs.declared.base.Base.TheVariants.{Int, Set}
+use Rattle.cf_tree.specs.Occurs.{set_holds, term_holds, rel_holds}
 use Rattle.cf_tree.specs.Relation.{IsTypedSet, IsTypedTerm, IsTyped}
 use Rattle.cf_tree.specs.RelTree.{SetTree, empty_set, set_var, union_of, inter_of, diff_of, TermTree, term_lit, term_var, term_card, term_neg, term_add, term_sub, term_mul, term_div, term_mod, term_abs, RelTree, rel_true, rel_false, rel_compare, rel_same_set, rel_other_set, rel_subset, rel_divides, rel_and, rel_or, rel_not}
 use Rattle.cf_tree.proofs.SetLemmas.{on_bool}
-use Rattle.cf_linear.specs.Layout.{Layout, set_holds, term_holds, rel_holds, is_number, is_set, levels_with, layout_of, place, has_level}
+use Rattle.cf_linear.specs.Layout.{Layout, is_number, is_set, levels_with, layout_of, place, has_level}
 use Rattle.cf_linear.proofs.ColumnLemmas.{has_below, has_not}
+use Rattle.cf_linear.proofs.PassingLemmas.{or_left, or_right}
 use Rattle.cf_cases.specs.Holding.{EachOf}
+use Rattle.cf_cases.proofs.PlacedLaws.{has_filtered}
 use Rattle.cf_venn.proofs.AgreeLaws.{at_place}
 use Rattle.cf_venn.proofs.ColumnLaws.{place_within}
 use Rattle.cf_venn.proofs.LevelLaws.{base_at as passes_at, level_has}
 use Rattle.cf_warn.specs.Questions.{parameters, level_in}
 use Rattle.cf_warn.specs.Writing.{is_parameter}
-use Rattle.cf_warn.proofs.OtherLevels.{on_left, on_right}
 
 -- ---- variables that occur
 on_or : {P : Type 0} (a b : Bool) → (a || b) ≡ true → (a ≡ true → P) → (b ≡ true → P) → P
@@ -76,13 +78,6 @@ slice_get-behind [] ys i = ap (slice_get ys) (omega arith)
 slice_get-behind (x ∷ xs) ys i =
     let s : suc (length xs) + i ≡ suc (length xs + i) = omega arith in
     ap (slice_get (x ∷ (xs ++ ys))) s ∙ slice_get-behind xs ys i
-
-has_filtered : (q : ℕ → Bool) (xs : List ℕ) (x : ℕ) → has_level xs x ≡ true → q x ≡ true → has_level (filter q xs) x ≡ true
-has_filtered q [] x h k = h
-has_filtered q (y ∷ ys) x h k =
-    cond_both (q y) (y ∷ filter q ys) (filter q ys) (λ zs. has_level zs x ≡ true)
-    (λ _. on_bool (y == x) (λ e. rw e refl) (λ e. rw (e, has_filtered q ys x (rw e at h) k) refl))
-    (λ f. on_bool (y == x) (λ e. let s : q x ≡ false = sym (ap q (eqb-true y x e)) ∙ f in absurd (cc)) (λ e. has_filtered q ys x (rw e at h) k))
 
 pub not_filtered : (q : ℕ → Bool) (xs : List ℕ) (x : ℕ) → q x ≡ false → has_level (filter q xs) x ≡ false
 not_filtered q [] x h = refl
@@ -146,9 +141,9 @@ module _ (scope outputs : List Base) (rel : RelTree) where
       on_bool (rel_holds x rel)
       (λ e. elim (held_rel (scope ++ outputs) x rel typed e) [
         | inl k ↦ let has = has_filtered q numbers x (number_has ∙ passes_from is_number scope x Int (sym early ∙ k) refl) e in
-            on_left (has_level (filter q numbers) x) (has_level (filter q sets) x) has ∙ sym e
+            or_left (has_level (filter q numbers) x) (has_level (filter q sets) x) has ∙ sym e
         | inr k ↦ let has = has_filtered q sets x (set_has ∙ passes_from is_set scope x Set (sym early ∙ k) refl) e in
-            on_right (has_level (filter q numbers) x) (has_level (filter q sets) x) has ∙ sym e
+            or_right (has_level (filter q numbers) x) (has_level (filter q sets) x) has ∙ sym e
       ])
       (λ e. ap₂ (λ a b. a || b) (not_filtered q numbers x e) (not_filtered q sets x e) ∙ sym e)
 

@@ -6,10 +6,11 @@ use Rattle.std.proofs.lemmas.List.{length-map, ext_get_or}
 use Rattle.std.proofs.lemmas.List.FromFn.{length-map-range_with_len, get_or-map-range_with_len}
 use Rattle.cf_tree.specs.declared.base.Base.{Base}
 use Rattle.cf_tree.specs.declared.base.Base.TheVariants.{Int, Bool as Truth, Set}
+use Rattle.cf_tree.specs.Occurs.{rel_holds}
 use Rattle.cf_tree.specs.RelTree.{RelTree}
 use Rattle.cf_tree.specs.Values.{Value, number, truth, elements, value_at, HasBase, HaveBases}
 use Rattle.cf_tree.proofs.SetLemmas.{on_bool}
-use Rattle.cf_linear.specs.Layout.{rel_holds, place, has_level}
+use Rattle.cf_linear.specs.Layout.{place, has_level}
 use Rattle.cf_cases.specs.Holding.{EachOf}
 use Rattle.cf_venn.proofs.AgreeLaws.{at_place}
 use Rattle.cf_venn.proofs.ColumnLaws.{place_within}

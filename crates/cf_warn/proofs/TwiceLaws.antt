@@ -6,11 +6,11 @@ use Rattle.std.proofs.lemmas.List.Elements.{All-nil, All-cons, All-head, All-tai
 use Rattle.std.proofs.lemmas.Option.{unwrap_or-slice_get, get_or_from_slice_get}
 use Rattle.cf_tree.specs.declared.base.Base.{Base}
 use Rattle.cf_tree.specs.declared.base.Base.TheVariants.{Int, Bool as Truth, Set}
+use Rattle.cf_tree.specs.Occurs.{rel_holds}
 use Rattle.cf_tree.specs.Relation.{Holds, IsTyped, IsLinear}
 use Rattle.cf_tree.specs.RelTree.{RelTree, rel_or, rel_false}
 use Rattle.cf_tree.specs.Values.{Value, number, elements, number_of, elements_of, value_at, same_list, HasBase, HaveBases}
 use Rattle.cf_tree.proofs.SetLemmas.{on_bool, eq_is, eq_differs, same_list-iff}
-use Rattle.cf_linear.specs.Layout.{rel_holds}
 use Rattle.cf_cases.specs.Holding.{EachOf, SomeOf}
 use Rattle.cf_cases.proofs.Quantifiers.{each-map}
 use Rattle.cf_venn.proofs.LevelLaws.{length_have}

@@ -4,8 +4,10 @@ use Rattle.std.specs.List.{range_with_len}
 use Rattle.cf_tree.specs.declared.base.Base.{Base}
 use Rattle.cf_tree.specs.declared.base.Base.TheVariants.{Int, Bool as Truth, Set}
 use Rattle.cf_tree.specs.declared.base.Order.TheVariants.{Ne}
-use Rattle.cf_tree.specs.RelTree.{SetTree, empty_set, set_var, union_of, inter_of, diff_of, TermTree, term_lit, term_var, term_card, term_neg, term_add, term_sub, term_mul, term_div, term_mod, term_abs, RelTree, rel_true, rel_false, rel_compare, rel_same_set, rel_other_set, rel_subset, rel_divides, rel_and, rel_or, rel_not}
-use Rattle.cf_linear.specs.Layout.{rel_holds, place}
+use Rattle.cf_tree.specs.Leaves.{set_with, term_with, rel_with}
+use Rattle.cf_tree.specs.Occurs.{rel_holds}
+use Rattle.cf_tree.specs.RelTree.{SetTree, set_var, TermTree, term_var, RelTree, rel_true, rel_false, rel_compare, rel_other_set, rel_and, rel_or}
+use Rattle.cf_linear.specs.Layout.{place}
 
 -- ---- parameters
 -- the levels of the variables in scope that occur in the relation
@@ -35,36 +37,14 @@ halves join empty ps = halves_within (length ps) join empty ps
 
 -- ---- other levels
 abbrev pub set_at : (ℕ → ℕ) → SetTree → SetTree
-set_at to empty_set = empty_set
-set_at to (set_var x) = set_var (to x)
-set_at to (union_of a b) = union_of (set_at to a) (set_at to b)
-set_at to (inter_of a b) = inter_of (set_at to a) (set_at to b)
-set_at to (diff_of a b) = diff_of (set_at to a) (set_at to b)
+set_at to s = set_with (λ x. set_var (to x)) s
 
 abbrev pub term_at : (ℕ → ℕ) → TermTree → TermTree
-term_at to (term_lit n) = term_lit n
-term_at to (term_var x) = term_var (to x)
-term_at to (term_card s) = term_card (set_at to s)
-term_at to (term_neg a) = term_neg (term_at to a)
-term_at to (term_add a b) = term_add (term_at to a) (term_at to b)
-term_at to (term_sub a b) = term_sub (term_at to a) (term_at to b)
-term_at to (term_mul a b) = term_mul (term_at to a) (term_at to b)
-term_at to (term_div a k) = term_div (term_at to a) k
-term_at to (term_mod a k) = term_mod (term_at to a) k
-term_at to (term_abs a) = term_abs (term_at to a)
+term_at to t = term_with (λ x. term_var (to x)) (λ x. set_var (to x)) t
 
 -- the relation with each variable at another level
 abbrev pub rel_at : (ℕ → ℕ) → RelTree → RelTree
-rel_at to rel_true = rel_true
-rel_at to rel_false = rel_false
-rel_at to (rel_compare o a b) = rel_compare o (term_at to a) (term_at to b)
-rel_at to (rel_same_set a b) = rel_same_set (set_at to a) (set_at to b)
-rel_at to (rel_other_set a b) = rel_other_set (set_at to a) (set_at to b)
-rel_at to (rel_subset a b) = rel_subset (set_at to a) (set_at to b)
-rel_at to (rel_divides k t) = rel_divides k (term_at to t)
-rel_at to (rel_and a b) = rel_and (rel_at to a) (rel_at to b)
-rel_at to (rel_or a b) = rel_or (rel_at to a) (rel_at to b)
-rel_at to (rel_not a) = rel_not (rel_at to a)
+rel_at to r = rel_with (λ x. term_var (to x)) (λ x. set_var (to x)) r
 
 -- the level in a question of a variable of a choose with so many variables in scope: the parameters stand first, and so many levels behind them the outputs
 abbrev pub level_in : ℕ → List ℕ → ℕ → ℕ → ℕ

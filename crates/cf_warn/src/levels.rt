@@ -1,12 +1,12 @@
 //! Relations over other levels.
-ghost use Rattle.std.specs.Prelude.{◌≡◌, ◌+◌, IfOk};
-ghost use Rattle.cf_tree.specs.RelView.{set_tree, term_tree, rel_tree};
-ghost use Rattle.cf_tree.specs.SameParts.{IsSetOverTwo, IsTermOverOne, IsTermOverTwo, IsRelOverSets, IsRelOverTwo};
-ghost use Rattle.cf_warn.specs.Questions.{set_at, term_at, rel_at};
+ghost use Rattle.std.specs.Prelude.{◌≡◌, IfOk};
+ghost use Rattle.cf_tree.specs.RelTree.{set_var, term_var};
+ghost use Rattle.cf_tree.specs.RelView.{rel_tree};
+ghost use Rattle.cf_warn.specs.Questions.{rel_at};
 ghost use Rattle.cf_warn.specs.Writing.{level_of};
 
 use cf_linear::place;
-use cf_tree::{NoMemory, Rel, SetTerm, Term, add_u32, to_u32};
+use cf_tree::{Leaves, NoMemory, Rel, SetTerm, Term, add_u32, to_u32};
 use std::alloc::Global;
 
 // Where the variables of a choose stand in a question: its parameters first, and so many levels behind them its outputs.
@@ -30,158 +30,24 @@ impl Levels {
         }
     }
 
-    // The set form over the levels of the question.
-    #[cycle(set)]
-    fn set(&self, alloc: Global, set: &SetTerm) -> Result<SetTerm, NoMemory>
-        ensures { IfOk result (λ new. set_tree new ≡ set_at (level_of self.now) (set_tree set.now)) }
-    {
-        match set {
-            SetTerm::Empty => Ok(SetTerm::Empty),
-            SetTerm::Var(x) => Ok(SetTerm::Var(self.of(*x)?)),
-            SetTerm::Union(a, b) | SetTerm::Inter(a, b) | SetTerm::Diff(a, b) => {
-                let first = self.boxed_set(alloc, a)?;
-                let second = self.boxed_set(alloc, b)?;
-                Ok(self.set_over_two(set, first, second))
-            }
-        }
-    }
-
-    #[cycle(set)]
-    fn boxed_set(&self, alloc: Global, set: &SetTerm) -> Result<Box<SetTerm>, NoMemory>
-        ensures { IfOk result (λ new. set_tree new.value ≡ set_at (level_of self.now) (set_tree set.now)) }
-    {
-        Ok(Box::new(alloc, self.set(alloc, set)?)?)
-    }
-
-    // The set form over the levels of the question, whose parts there are these.
-    fn set_over_two(&self, set: &SetTerm, a: Box<SetTerm>, b: Box<SetTerm>) -> SetTerm
-        requires { IsSetOverTwo (set_at (level_of self.now) (set_tree set.now)) (set_tree a.value) (set_tree b.value) }
-        ensures { set_tree result ≡ set_at (level_of self.now) (set_tree set.now) }
-    {
-        match set {
-            SetTerm::Union(_, _) => SetTerm::Union(a, b),
-            SetTerm::Inter(_, _) => SetTerm::Inter(a, b),
-            SetTerm::Diff(_, _) => SetTerm::Diff(a, b),
-            _ => unreachable!(),
-        }
-    }
-
-    // The number form over the levels of the question.
-    #[cycle(term)]
-    fn term(&self, alloc: Global, term: &Term) -> Result<Term, NoMemory>
-        ensures { IfOk result (λ new. term_tree new ≡ term_at (level_of self.now) (term_tree term.now)) }
-    {
-        match term {
-            Term::Lit(n) => Ok(Term::Lit(*n)),
-            Term::Var(x) => Ok(Term::Var(self.of(*x)?)),
-            Term::Card(set) => Ok(Term::Card(self.boxed_set(alloc, set)?)),
-            Term::Neg(a) | Term::Div(a, _) | Term::Mod(a, _) | Term::Abs(a) => {
-                let part = self.boxed_term(alloc, a)?;
-                Ok(self.term_over_one(term, part))
-            }
-            Term::Add(a, b) | Term::Sub(a, b) | Term::Mul(a, b) => {
-                let first = self.boxed_term(alloc, a)?;
-                let second = self.boxed_term(alloc, b)?;
-                Ok(self.term_over_two(term, first, second))
-            }
-        }
-    }
-
-    #[cycle(term)]
-    fn boxed_term(&self, alloc: Global, term: &Term) -> Result<Box<Term>, NoMemory>
-        ensures { IfOk result (λ new. term_tree new.value ≡ term_at (level_of self.now) (term_tree term.now)) }
-    {
-        Ok(Box::new(alloc, self.term(alloc, term)?)?)
-    }
-
-    // The number form over the levels of the question, whose part there is this.
-    fn term_over_one(&self, term: &Term, a: Box<Term>) -> Term
-        requires { IsTermOverOne (term_at (level_of self.now) (term_tree term.now)) (term_tree a.value) }
-        ensures { term_tree result ≡ term_at (level_of self.now) (term_tree term.now) }
-    {
-        match term {
-            Term::Neg(_) => Term::Neg(a),
-            Term::Div(_, k) => Term::Div(a, *k),
-            Term::Mod(_, k) => Term::Mod(a, *k),
-            Term::Abs(_) => Term::Abs(a),
-            _ => unreachable!(),
-        }
-    }
-
-    // The same with two parts.
-    fn term_over_two(&self, term: &Term, a: Box<Term>, b: Box<Term>) -> Term
-        requires { IsTermOverTwo (term_at (level_of self.now) (term_tree term.now)) (term_tree a.value) (term_tree b.value) }
-        ensures { term_tree result ≡ term_at (level_of self.now) (term_tree term.now) }
-    {
-        match term {
-            Term::Add(_, _) => Term::Add(a, b),
-            Term::Sub(_, _) => Term::Sub(a, b),
-            Term::Mul(_, _) => Term::Mul(a, b),
-            _ => unreachable!(),
-        }
-    }
-
     // The relation over the levels of the question.
-    #[cycle(rel)]
-    fn rel(&self, alloc: Global, rel: &Rel) -> Result<Rel, NoMemory>
-        ensures { IfOk result (λ new. rel_tree new ≡ rel_at (level_of self.now) (rel_tree rel.now)) }
-    {
-        match rel {
-            Rel::True => Ok(Rel::True),
-            Rel::False => Ok(Rel::False),
-            Rel::Compare { order, left, right } => {
-                let left = self.boxed_term(alloc, left)?;
-                let right = self.boxed_term(alloc, right)?;
-                let order = *order;
-                Ok(Rel::Compare { order, left, right })
-            }
-            Rel::SameSet(a, b) | Rel::OtherSet(a, b) | Rel::Subset(a, b) => {
-                let first = self.boxed_set(alloc, a)?;
-                let second = self.boxed_set(alloc, b)?;
-                Ok(self.rel_over_sets(rel, first, second))
-            }
-            Rel::Divides { k, of } => {
-                let of = self.boxed_term(alloc, of)?;
-                Ok(Rel::Divides { k: *k, of })
-            }
-            Rel::And(a, b) | Rel::Or(a, b) => {
-                let first = self.boxed_rel(alloc, a)?;
-                let second = self.boxed_rel(alloc, b)?;
-                Ok(self.rel_over_two(rel, first, second))
-            }
-            Rel::Not(a) => Ok(Rel::Not(self.boxed_rel(alloc, a)?)),
-        }
-    }
-
-    #[cycle(rel)]
     pub(crate) fn boxed_rel(&self, alloc: Global, rel: &Rel) -> Result<Box<Rel>, NoMemory>
         ensures { IfOk result (λ new. rel_tree new.value ≡ rel_at (level_of self.now) (rel_tree rel.now)) }
     {
-        Ok(Box::new(alloc, self.rel(alloc, rel)?)?)
+        rel.rebuilt_box(alloc, self)
+    }
+}
+
+impl Leaves for Levels {
+    ghost becomes_term = { λ levels x. term_var (level_of levels x) };
+
+    ghost becomes_set = { λ levels x. set_var (level_of levels x) };
+
+    fn term(&self, level: u32) -> Result<Term, NoMemory> {
+        Ok(Term::Var(self.of(level)?))
     }
 
-    // The relation over the levels of the question, whose set forms there are these.
-    fn rel_over_sets(&self, rel: &Rel, a: Box<SetTerm>, b: Box<SetTerm>) -> Rel
-        requires { IsRelOverSets (rel_at (level_of self.now) (rel_tree rel.now)) (set_tree a.value) (set_tree b.value) }
-        ensures { rel_tree result ≡ rel_at (level_of self.now) (rel_tree rel.now) }
-    {
-        match rel {
-            Rel::SameSet(_, _) => Rel::SameSet(a, b),
-            Rel::OtherSet(_, _) => Rel::OtherSet(a, b),
-            Rel::Subset(_, _) => Rel::Subset(a, b),
-            _ => unreachable!(),
-        }
-    }
-
-    // The same with two relations.
-    fn rel_over_two(&self, rel: &Rel, a: Box<Rel>, b: Box<Rel>) -> Rel
-        requires { IsRelOverTwo (rel_at (level_of self.now) (rel_tree rel.now)) (rel_tree a.value) (rel_tree b.value) }
-        ensures { rel_tree result ≡ rel_at (level_of self.now) (rel_tree rel.now) }
-    {
-        match rel {
-            Rel::And(_, _) => Rel::And(a, b),
-            Rel::Or(_, _) => Rel::Or(a, b),
-            _ => unreachable!(),
-        }
+    fn set(&self, level: u32) -> Result<SetTerm, NoMemory> {
+        Ok(SetTerm::Var(self.of(level)?))
     }
 }

@@ -8,7 +8,6 @@ mod coverage;
 mod draft;
 mod forms;
 mod halves;
-mod holds;
 mod levels;
 mod no_outputs;
 mod none;
@@ -22,7 +21,6 @@ mod used_parameters;
 
 pub use crate::answer::{Doubt, ExistenceAnswer, UniquenessAnswer};
 pub use crate::coverage::{Cover, covers};
-pub use crate::holds::rel_holds;
 pub use crate::no_outputs::existence;
 pub use crate::over::is_over;
 pub use crate::two_outputs::uniqueness;

@@ -1,5 +1,6 @@
 -- What clap finds behind a subcommand with flags.
-use Rattle.std.proofs.Common.{◌≡◌, ◌∙◌, ◌||◌, ◌==◌, ◌++◌, ℕ, Bool, true, false, not, cond, refl, sym, ap, ap₂, true≢false, List, [], ◌∷◌, fold, Option, Some, None, is_some, option_map, option_and_then, codes, bytes_eq}
+use Rattle.std.proofs.Common.{◌≡◌, ◌∙◌, ◌||◌, ◌++◌, ℕ, Bool, true, false, not, cond, refl, sym, ap, ap₂, subst, true≢false, List, [], ◌∷◌, fold, Option, Some, None, is_some, option_map, option_and_then, codes, bytes_eq}
+use Rattle.std.proofs.lemmas.Slice.Eq.{bytes_eq-Decides}
 use Rattle.std.specs.Option.{option_map_or}
 use Rattle.std.specs.Prelude.{slice_get}
 use Rattle.clap.proofs.OnLiterals.{clap_on_literals}
@@ -7,53 +8,47 @@ use Rattle.clap.specs.Facts.{explicit_source}
 use Rattle.clap.specs.Faults.{check_fault, default_fault, defaults_fault, settle_fault, turn_fault, walk_fault}
 use Rattle.clap.specs.Kinds.{Kinds, check_kinds, or_else}
 use Rattle.clap.specs.Simple.{Shape, built_leaf, filled, inherited, with_index}
-use Rattle.clap.specs.Walk.{Rule, Row, Text, has_row, settled, walked, with_default, with_values}
+use Rattle.clap.specs.Walk.{Rule, Row, Text, Walk, has_row, settled, walked, with_default, with_values}
 use Rattle.clap.specs.declared.error.kind.ErrorKind.TheVariants.{UnknownArgument}
 use Rattle.clap.specs.declared.builder.value_parser.Reading.TheVariants.{AsWritten}
 use Rattle.clap.specs.declared.parser.matches.ValueSource.TheVariants.{CommandLine, DefaultValue}
 use Rattle.cf_words.proofs.RowLemmas.{added, defaulted, found, has_row_is, kept, row_at, row_of_values}
-use Rattle.cf_words.specs.Grammar.{flag, flagged_subcommand, found_unless, operand as the_operand, program}
-use Rattle.cf_words.specs.Words.{flags_in, only, operands, stands, stands_twice}
+use Rattle.cf_words.specs.Grammar.{flag as the_flag, flagged_subcommand, found_unless, operand as the_operand, program}
+use Rattle.cf_words.specs.Words.{flags_in, form_in, only, operands, stands, stands_twice}
 use Rattle.cf_words.specs.declared.command.Flags.{Flags}
-use Rattle.cf_words.proofs.Uses.{Use, words_of, not_plain, not_stats, plain, stats, operand}
-use Rattle.cf_words.proofs.LevelLaws.{said, found_from, found_in, after_turn, passes, fails, at, flag_row, operand_row, operand_turn, operand_walk, given_or, cond_same}
+use Rattle.cf_words.specs.declared.command.ReplyForm.{ReplyForm}
+use Rattle.cf_words.proofs.Uses.{AreOnce, Flag, IsOperand, Use, flag_id, flag_is, flag_not, flag_word, words_of, plain, stats, key, jsonl, flag, operand}
+use Rattle.cf_words.proofs.LevelLaws.{Asked, said, found_from, found_in, after_turn, passes, fails, at, flag_row, operand_row, operand_turn, operand_walk, given_or, cond_same}
 
 abbrev pub flagged : Text → Shape
 flagged name = built_leaf (inherited program.top (flagged_subcommand name).top)
 
 -- what is found at the end of the words, where no word is left that waits
-abbrev settled_to : Shape → Kinds → List Row → Option (Flags × Text)
+abbrev settled_to : Shape → Kinds → List Row → Option Asked
 settled_to s kinds rows =
     let end = fold with_default rows s.rules in
     found_unless (or_else [] (or_else kinds (or_else (defaults_fault rows s.rules) (check_fault s end false)))) (said end)
 
 module _ (name : Text) where
-  first_operand : (x : ℕ) (xs : List ℕ) (e : (x == 45) ≡ false) (rows : List Row) → turn_fault (flagged name) [] (at rows None 1) (x ∷ xs) ≡ []
-  first_operand x xs e rows = operand_turn x xs e (flagged name) [] (at rows None 1).held 1 refl
+  next_operand : (word : Text) (is : IsOperand word) (rows : List Row) (last : Option Text)
+      → turn_fault (flagged name) [] (at rows last 2) word ≡ UnknownArgument ∷ []
+  next_operand word is rows last = operand_turn word is (flagged name) [] (at rows last 2).held 2 refl
 
-  next_operand : (x : ℕ) (xs : List ℕ) (e : (x == 45) ≡ false) (rows : List Row) (last : Option Text)
-      → turn_fault (flagged name) [] (at rows last 2) (x ∷ xs) ≡ UnknownArgument ∷ []
-  next_operand x xs e rows last = operand_turn x xs e (flagged name) [] (at rows last 2).held 2 refl
-
-  plain_turn : (rows : List Row) (position : ℕ) → has_row (codes "plain") rows ≡ false
-      → turn_fault (flagged name) [] (at rows None position) (codes "--plain") ≡ []
+  flag_turn : (f : Flag) (rows : List Row) (position : ℕ) → has_row (flag_id f) rows ≡ false
+      → turn_fault (flagged name) [] (at rows None position) (flag_word f) ≡ []
   unfolding clap_on_literals
-  plain_turn rows position unused = rw unused refl
+  flag_turn plain rows position unused = rw unused refl
+  flag_turn stats rows position unused = rw unused refl
+  flag_turn key rows position unused = rw unused refl
+  flag_turn jsonl rows position unused = rw unused refl
 
-  stats_turn : (rows : List Row) (position : ℕ) → has_row (codes "stats") rows ≡ false
-      → turn_fault (flagged name) [] (at rows None position) (codes "--stats") ≡ []
+  flag_walk : (f : Flag) (rows : List Row) (position : ℕ) → row_at (flag_id f) rows ≡ None
+      → walked (flagged name).rules [] (at rows None position) (flag_word f) ≡ at (rows ++ flag_row (flag_id f) ∷ []) None position
   unfolding clap_on_literals
-  stats_turn rows position unused = rw unused refl
-
-  plain_walk : (rows : List Row) (position : ℕ) → row_at (codes "plain") rows ≡ None
-      → walked (flagged name).rules [] (at rows None position) (codes "--plain") ≡ at (rows ++ flag_row (codes "plain") ∷ []) None position
-  unfolding clap_on_literals
-  plain_walk rows position none = ap (λ rs. at rs None position) (added (codes "plain") AsWritten CommandLine (codes "true" ∷ []) rows none)
-
-  stats_walk : (rows : List Row) (position : ℕ) → row_at (codes "stats") rows ≡ None
-      → walked (flagged name).rules [] (at rows None position) (codes "--stats") ≡ at (rows ++ flag_row (codes "stats") ∷ []) None position
-  unfolding clap_on_literals
-  stats_walk rows position none = ap (λ rs. at rs None position) (added (codes "stats") AsWritten CommandLine (codes "true" ∷ []) rows none)
+  flag_walk plain rows position none = ap (λ rs. at rs None position) (added (codes "plain") AsWritten CommandLine (codes "true" ∷ []) rows none)
+  flag_walk stats rows position none = ap (λ rs. at rs None position) (added (codes "stats") AsWritten CommandLine (codes "true" ∷ []) rows none)
+  flag_walk key rows position none = ap (λ rs. at rs None position) (added (codes "key") AsWritten CommandLine (codes "true" ∷ []) rows none)
+  flag_walk jsonl rows position none = ap (λ rs. at rs None position) (added (codes "jsonl") AsWritten CommandLine (codes "true" ∷ []) rows none)
 
   -- an operand that waits is settled by the next word, or by the end
   module _ (o : Text) (rows : List Row) (none : row_at (codes "operand") rows ≡ None) where
@@ -66,43 +61,39 @@ module _ (name : Text) where
     settles : settle_fault (flagged name).rules (flagged name).args_override_self (at rows (Some o) 2).held ≡ []
     settles = rw unused refl
 
-    plain_settles_walk : walked (flagged name).rules [] (at rows (Some o) 2) (codes "--plain") ≡ walked (flagged name).rules []
-        (at (rows ++ operand_row o ∷ []) None 2) (codes "--plain")
-    unfolding clap_on_literals
-    plain_settles_walk = ap (λ rs. walked (flagged name).rules [] (at rs None 2) (codes "--plain")) settled_rows_are
+    abbrev walk_on : Flag → List Row → Walk
+    walk_on f rs = walked (flagged name).rules [] (at rs None 2) (flag_word f)
 
-    stats_settles_walk : walked (flagged name).rules [] (at rows (Some o) 2) (codes "--stats") ≡ walked (flagged name).rules []
-        (at (rows ++ operand_row o ∷ []) None 2) (codes "--stats")
-    unfolding clap_on_literals
-    stats_settles_walk = ap (λ rs. walked (flagged name).rules [] (at rs None 2) (codes "--stats")) settled_rows_are
+    abbrev turn_on : Flag → List Row → Kinds
+    turn_on f rs = turn_fault (flagged name) [] (at rs None 2) (flag_word f)
 
-    plain_settles_turn : turn_fault (flagged name) [] (at rows (Some o) 2) (codes "--plain") ≡ turn_fault (flagged name) []
-        (at (rows ++ operand_row o ∷ []) None 2) (codes "--plain")
+    settles_walk : (f : Flag) → walked (flagged name).rules [] (at rows (Some o) 2) (flag_word f) ≡ walk_on f (rows ++ operand_row o ∷ [])
     unfolding clap_on_literals
-    plain_settles_turn = rw unused (ap (λ rs. turn_fault (flagged name) [] (at rs None 2) (codes "--plain")) settled_rows_are)
+    settles_walk plain = ap (walk_on plain) settled_rows_are
+    settles_walk stats = ap (walk_on stats) settled_rows_are
+    settles_walk key = ap (walk_on key) settled_rows_are
+    settles_walk jsonl = ap (walk_on jsonl) settled_rows_are
 
-    stats_settles_turn : turn_fault (flagged name) [] (at rows (Some o) 2) (codes "--stats") ≡ turn_fault (flagged name) []
-        (at (rows ++ operand_row o ∷ []) None 2) (codes "--stats")
+    settles_turn : (f : Flag) → turn_fault (flagged name) [] (at rows (Some o) 2) (flag_word f) ≡ turn_on f (rows ++ operand_row o ∷ [])
     unfolding clap_on_literals
-    stats_settles_turn = rw unused (ap (λ rs. turn_fault (flagged name) [] (at rs None 2) (codes "--stats")) settled_rows_are)
+    settles_turn plain = rw unused (ap (turn_on plain) settled_rows_are)
+    settles_turn stats = rw unused (ap (turn_on stats) settled_rows_are)
+    settles_turn key = rw unused (ap (turn_on key) settled_rows_are)
+    settles_turn jsonl = rw unused (ap (turn_on jsonl) settled_rows_are)
 
     settled_before : (us : List Use)
         → found_from said (flagged name) (at rows (Some o) 2) (words_of us) ≡ found_from said (flagged name) (at (rows ++ operand_row o ∷ []) None 2)
         (words_of us)
     unfolding walk_fault
     settled_before [] = ap₂ (settled_to (flagged name)) settles settled_rows_are
-    settled_before (plain ∷ us) = ap₂ (after_turn said (flagged name) (words_of us)) plain_settles_turn plain_settles_walk
-    settled_before (stats ∷ us) = ap₂ (after_turn said (flagged name) (words_of us)) stats_settles_turn stats_settles_walk
-    settled_before (operand x xs e ∷ us) =
-        fails said (flagged name) (at rows (Some o) 2) (x ∷ xs) (words_of us) UnknownArgument [] (next_operand x xs e rows (Some o))
-        ∙ sym (fails said (flagged name) (at (rows ++ operand_row o ∷ []) None 2) (x ∷ xs) (words_of us) UnknownArgument []
-        (next_operand x xs e (rows ++ operand_row o ∷ []) None))
+    settled_before (flag f ∷ us) = ap₂ (after_turn said (flagged name) (words_of us)) (settles_turn f) (settles_walk f)
+    settled_before (operand word is ∷ us) =
+        fails said (flagged name) (at rows (Some o) 2) word (words_of us) UnknownArgument [] (next_operand word is rows (Some o))
+        ∙ sym (fails said (flagged name) (at (rows ++ operand_row o ∷ []) None 2) word (words_of us) UnknownArgument []
+        (next_operand word is (rows ++ operand_row o ∷ []) None))
 
-abbrev plain_rule : Rule
-plain_rule = with_index 1 (filled (flag (codes "plain")))
-
-abbrev stats_rule : Rule
-stats_rule = with_index 1 (filled (flag (codes "stats")))
+abbrev flag_rule : Flag → Rule
+flag_rule f = with_index 1 (filled (the_flag (flag_id f)))
 
 abbrev operand_rule : Rule
 operand_rule = with_index 1 (filled (the_operand (codes "operand")))
@@ -134,153 +125,255 @@ other_default : (id other : Text) (used : Bool) (rows : List Row) → bytes_eq i
 other_default id other true rows apart = refl
 other_default id other false rows apart = kept other (default_row id) rows apart
 
+-- what flags ask, of which these came
+abbrev flags_by : (Flag → Bool) → Flags
+flags_by came = record { plain = came plain; stats = came stats }
+
+abbrev form_by : (Flag → Bool) → ReplyForm
+form_by came = record { key = came key; jsonl = came jsonl }
+
 -- what the rows at the end have, and what is found in them
-abbrev of_rows : Option Row → Option Row → Option Row → Option (Flags × Text)
-of_rows plain_row stats_row operand_found =
-    let text = λ (r : Option Row). option_and_then (λ x. slice_get x.values 0) r in
-    let is_true = λ (r : Option Row). option_map_or (λ t. bytes_eq t (codes "true")) (text r) false in
+abbrev text_in : Option Row → Option Text
+text_in r = option_and_then (λ x. slice_get x.values 0) r
+
+abbrev is_true : Option Row → Bool
+is_true r = option_map_or (λ t. bytes_eq t (codes "true")) (text_in r) false
+
+abbrev of_rows : (Flag → Option Row) → Option Row → Option Asked
+of_rows flag_rows operand_found =
     let given = option_map_or (λ x. explicit_source x.source) operand_found false in
     found_unless (check_kinds false false (not given || false))
-    (option_map (λ o. (record { plain = is_true plain_row; stats = is_true stats_row }, o)) (text operand_found))
+    (option_map (λ o. (flags_by (λ f. is_true (flag_rows f)), form_by (λ f. is_true (flag_rows f)), o)) (text_in operand_found))
 
 -- what is asked by words behind these flags and this operand
-abbrev asked_behind : Bool → Bool → Option Text → List Text → Option (Flags × Text)
-asked_behind p s o words =
-    option_map (λ x. (record { plain = p || stands (codes "--plain") words; stats = s || stands (codes "--stats") words }, x))
-    (only (given_or o (operands words)))
+abbrev asked_with : (Flag → Bool) → List Text → Option Asked
+asked_with came operands = option_map (λ x. (flags_by came, form_by came, x)) (only operands)
 
-answer_is : (p s : Bool) (o : Option Text)
-    → of_rows (Some (cond p (flag_row (codes "plain")) (default_row (codes "plain")))) (Some (cond s (flag_row (codes "stats")) (default_row (codes "stats"))))
-    (option_map operand_row o) ≡ asked_behind p s o []
-answer_is p s None = refl
-answer_is true true (Some o) = refl
-answer_is true false (Some o) = refl
-answer_is false true (Some o) = refl
-answer_is false false (Some o) = refl
+abbrev asked_behind : (Flag → Bool) → Option Text → List Text → Option Asked
+asked_behind came o words = asked_with (λ f. came f || stands (flag_word f) words) (given_or o (operands words))
+
+abbrev end_row : Flag → Bool → Row
+end_row f came = cond came (flag_row (flag_id f)) (default_row (flag_id f))
+
+row_is_true : (f : Flag) (came : Bool) → is_true (Some (end_row f came)) ≡ (came || false)
+row_is_true f true = refl
+row_is_true f false = refl
+
+answer_is : (came : Flag → Bool) (o : Option Text) → of_rows (λ f. Some (end_row f (came f))) (option_map operand_row o) ≡ asked_behind came o []
+answer_is came None = refl
+answer_is came (Some o) = λ i. Some (flags_by (λ f. row_is_true f (came f) i), form_by (λ f. row_is_true f (came f) i), o)
 
 -- the rows tell these flags and this operand
-record Tells (p s : Bool) (o : Option Text) (rows : List Row) : Type 0 where
-  plain : row_at (codes "plain") rows ≡ flag_found (codes "plain") p
-  stats : row_at (codes "stats") rows ≡ flag_found (codes "stats") s
+record Tells (came : Flag → Bool) (o : Option Text) (rows : List Row) : Type 0 where
+  flags : (f : Flag) → row_at (flag_id f) rows ≡ flag_found (flag_id f) (came f)
   operand : row_at (codes "operand") rows ≡ option_map operand_row o
 
 module _ (name : Text) where
+  -- the rows with the defaults of the flags, one flag after the other
+  module _ (came : Flag → Bool) (o : Option Text) (rows : List Row) (h : Tells came o rows) where
+    abbrev past : Flag → List Row → List Row
+    past f rs = with_flag_default (flag_id f) (came f) rs
+
+    abbrev past_plain : List Row
+    past_plain = past plain rows
+
+    abbrev past_stats : List Row
+    past_stats = past stats past_plain
+
+    abbrev past_key : List Row
+    past_key = past key past_stats
+
+    abbrev past_all : List Row
+    past_all = past jsonl past_key
+
+    apart : (id : Text) (f : Flag) (rs : List Row) → bytes_eq (flag_id f) id ≡ false → row_at id (past f rs) ≡ row_at id rs
+    apart id f rs other = other_default (flag_id f) id (came f) rs other
+
+    stats_then : row_at (codes "stats") past_plain ≡ flag_found (codes "stats") (came stats)
+    stats_then = apart (codes "stats") plain rows refl ∙ h.flags stats
+
+    key_then : row_at (codes "key") past_stats ≡ flag_found (codes "key") (came key)
+    key_then = apart (codes "key") stats past_plain refl ∙ apart (codes "key") plain rows refl ∙ h.flags key
+
+    jsonl_then : row_at (codes "jsonl") past_key ≡ flag_found (codes "jsonl") (came jsonl)
+    jsonl_then =
+        apart (codes "jsonl") key past_stats refl ∙ apart (codes "jsonl") stats past_plain refl ∙ apart (codes "jsonl") plain rows refl ∙ h.flags jsonl
+
+    end_is : (f : Flag) → row_at (flag_id f) past_all ≡ Some (end_row f (came f))
+    end_is plain =
+        apart (codes "plain") jsonl past_key refl ∙ apart (codes "plain") key past_stats refl ∙ apart (codes "plain") stats past_plain refl
+        ∙ own_default (codes "plain") (came plain) rows refl (h.flags plain)
+    end_is stats =
+        apart (codes "stats") jsonl past_key refl ∙ apart (codes "stats") key past_stats refl
+        ∙ own_default (codes "stats") (came stats) past_plain refl stats_then
+    end_is key = apart (codes "key") jsonl past_key refl ∙ own_default (codes "key") (came key) past_stats refl key_then
+    end_is jsonl = own_default (codes "jsonl") (came jsonl) past_key refl jsonl_then
+
+    operand_then : row_at (codes "operand") past_all ≡ option_map operand_row o
+    operand_then =
+        apart (codes "operand") jsonl past_key refl ∙ apart (codes "operand") key past_stats refl ∙ apart (codes "operand") stats past_plain refl
+        ∙ apart (codes "operand") plain rows refl ∙ h.operand
+
+    abbrev over : List Rule → List Row → List Row
+    over rules rs = fold with_default rs rules
+
+    finished_is : fold with_default rows (flagged name).rules ≡ past_all
+    finished_is =
+        let last = with_default past_key (flag_rule jsonl) in
+        ap (over (flag_rule stats ∷ flag_rule key ∷ flag_rule jsonl ∷ operand_rule ∷ [])) (flag_default (codes "plain") (came plain) rows (h.flags plain))
+        ∙ ap (over (flag_rule key ∷ flag_rule jsonl ∷ operand_rule ∷ [])) (flag_default (codes "stats") (came stats) past_plain stats_then)
+        ∙ ap (over (flag_rule jsonl ∷ operand_rule ∷ [])) (flag_default (codes "key") (came key) past_stats key_then)
+        ∙ cond_same (has_row (codes "operand") last) last ∙ flag_default (codes "jsonl") (came jsonl) past_key jsonl_then
+
   no_default_fault : (rows : List Row) → defaults_fault rows (flagged name).rules ≡ []
   unfolding clap_on_literals
   no_default_fault rows =
-      let after_plain = with_default rows plain_rule in
-      let plain_passes : default_fault rows plain_rule ≡ [] = cond_same _ [] in
-      let stats_passes : default_fault after_plain stats_rule ≡ [] = cond_same _ [] in
-      let operand_passes : default_fault (with_default after_plain stats_rule) operand_rule ≡ [] = cond_same _ [] in
-      λ i. or_else (plain_passes i) (or_else (stats_passes i) (or_else (operand_passes i) []))
+      let after_plain = with_default rows (flag_rule plain) in
+      let after_stats = with_default after_plain (flag_rule stats) in
+      let after_key = with_default after_stats (flag_rule key) in
+      let after_jsonl = with_default after_key (flag_rule jsonl) in
+      let plain_passes : default_fault rows (flag_rule plain) ≡ [] = cond_same _ [] in
+      let stats_passes : default_fault after_plain (flag_rule stats) ≡ [] = cond_same _ [] in
+      let key_passes : default_fault after_stats (flag_rule key) ≡ [] = cond_same _ [] in
+      let jsonl_passes : default_fault after_key (flag_rule jsonl) ≡ [] = cond_same _ [] in
+      let operand_passes : default_fault after_jsonl operand_rule ≡ [] = cond_same _ [] in
+      λ i. or_else (plain_passes i) (or_else (stats_passes i) (or_else (key_passes i) (or_else (jsonl_passes i) (or_else (operand_passes i) []))))
 
-  finished_is : (p s : Bool) (rows : List Row) (o : Option Text) → Tells p s o rows
-      → fold with_default rows (flagged name).rules ≡ with_flag_default (codes "stats") s (with_flag_default (codes "plain") p rows)
-  finished_is p s rows o h =
-      let first = flag_default (codes "plain") p rows h.plain in
-      let stats_then = other_default (codes "plain") (codes "stats") p rows refl ∙ h.stats in
-      let then = with_flag_default (codes "plain") p rows in
-      ap (λ rs. fold with_default rs (stats_rule ∷ operand_rule ∷ [])) first
-      ∙ cond_same (has_row (codes "operand") (with_default then stats_rule)) (with_default then stats_rule) ∙ flag_default (codes "stats") s then stats_then
-
-  ends : (p s : Bool) (o : Option Text) (rows : List Row) (position : ℕ) → Tells p s o rows
-      → found_from said (flagged name) (at rows None position) [] ≡ asked_behind p s o []
+  ends : (came : Flag → Bool) (o : Option Text) (rows : List Row) (position : ℕ) → Tells came o rows
+      → found_from said (flagged name) (at rows None position) [] ≡ asked_behind came o []
   unfolding walk_fault
-  ends p s o rows position h =
-      let end = with_flag_default (codes "stats") s (with_flag_default (codes "plain") p rows) in
-      let stats_then = other_default (codes "plain") (codes "stats") p rows refl ∙ h.stats in
-      let plain_is = other_default (codes "stats") (codes "plain") s (with_flag_default (codes "plain") p rows) refl
-      ∙ own_default (codes "plain") p rows refl h.plain in
-      let stats_is = own_default (codes "stats") s (with_flag_default (codes "plain") p rows) refl stats_then in
-      let operand_is = other_default (codes "stats") (codes "operand") s (with_flag_default (codes "plain") p rows) refl
-      ∙ other_default (codes "plain") (codes "operand") p rows refl ∙ h.operand in
+  ends came o rows position h =
       ap₂ (λ kinds rs. found_unless (or_else [] (or_else [] (or_else kinds (check_fault (flagged name) rs false)))) (said rs)) (no_default_fault rows)
-      (finished_is p s rows o h)
-      ∙ (λ i. of_rows (plain_is i) (stats_is i) (operand_is i)) ∙ answer_is p s o
+      (finished_is came o rows h)
+      ∙ (λ i. of_rows (λ f. end_is came o rows h f i) (operand_then came o rows h i)) ∙ answer_is came o
+
+-- one more flag comes
+abbrev also : Flag → (Flag → Bool) → Flag → Bool
+also f came g = bytes_eq (flag_word f) (flag_word g) || came g
+
+exchanged : (a b c : Bool) → ((a || b) || c) ≡ (b || (a || c))
+exchanged true true c = refl
+exchanged true false c = refl
+exchanged false true c = refl
+exchanged false false c = refl
+
+flag_asked : (f : Flag) (came : Flag → Bool) (o : Option Text) (words : List Text)
+    → asked_behind (also f came) o words ≡ asked_behind came o (flag_word f ∷ words)
+flag_asked f came o words =
+    let kept_out = sym (ap (λ b. cond (not b) (flag_word f ∷ operands words) (operands words)) (flag_is f)) in
+    λ i. asked_with (λ g. exchanged (bytes_eq (flag_word f) (flag_word g)) (came g) (stands (flag_word g) words) i) (given_or o (kept_out i))
+
+-- a flag's row tells that the flag came
+flag_told : (f g : Flag) (came : Flag → Bool) (rows : List Row) → row_at (flag_id f) rows ≡ None → row_at (flag_id g) rows ≡ flag_found (flag_id g) (came g)
+    → row_at (flag_id g) (rows ++ flag_row (flag_id f) ∷ []) ≡ flag_found (flag_id g) (also f came g)
+flag_told f g came rows none told = go (bytes_eq (flag_id f) (flag_id g)) refl
+  where
+    go : (b : Bool) → bytes_eq (flag_id f) (flag_id g) ≡ b
+        → row_at (flag_id g) (rows ++ flag_row (flag_id f) ∷ []) ≡ flag_found (flag_id g) (b || came g)
+    go true same =
+        let is = (bytes_eq-Decides (flag_id f) (flag_id g)).0 same in
+        subst (λ id. row_at id (rows ++ flag_row (flag_id f) ∷ []) ≡ Some (flag_row id)) is
+        (found (flag_id f) (flag_row (flag_id f)) rows (subst (λ id. bytes_eq (flag_id f) id ≡ true) (sym is) same) none)
+    go false other = kept (flag_id g) (flag_row (flag_id f)) rows other ∙ told
+
+flag_tells : (f : Flag) (came : Flag → Bool) (o : Option Text) (rows : List Row) → row_at (flag_id f) rows ≡ None → Tells came o rows
+    → Tells (also f came) o (rows ++ flag_row (flag_id f) ∷ [])
+flag_tells f came o rows none h = record {
+  flags = λ g. flag_told f g came rows none (h.flags g);
+  operand = kept (codes "operand") (flag_row (flag_id f)) rows (no_operand f) ∙ h.operand;
+}
+  where
+    no_operand : (g : Flag) → bytes_eq (flag_id g) (codes "operand") ≡ false
+    no_operand plain = refl
+    no_operand stats = refl
+    no_operand key = refl
+    no_operand jsonl = refl
+
+operand_tells : (came : Flag → Bool) (word : Text) (rows : List Row) → Tells came None rows → Tells came (Some word) (rows ++ operand_row word ∷ [])
+operand_tells came word rows h = record {
+  flags = λ f. kept (flag_id f) (operand_row word) rows (no_flag f) ∙ h.flags f;
+  operand = found (codes "operand") (operand_row word) rows refl h.operand;
+}
+  where
+    no_flag : (f : Flag) → bytes_eq (codes "operand") (flag_id f) ≡ false
+    no_flag plain = refl
+    no_flag stats = refl
+    no_flag key = refl
+    no_flag jsonl = refl
 
 -- no flag comes that came before, and none comes twice
-abbrev comes_again : Text → Bool → List Text → Bool
-comes_again word came words = cond came (stands word words) (stands_twice word words)
+abbrev ComeOnce : (Flag → Bool) → List Text → Type 0
+ComeOnce came words = (f : Flag) → cond (came f) (stands (flag_word f) words) (stands_twice (flag_word f) words) ≡ false
 
-record AreOnce (p s : Bool) (words : List Text) : Type 0 where
-  plain : comes_again (codes "--plain") p words ≡ false
-  stats : comes_again (codes "--stats") s words ≡ false
+again : (same came later twice : Bool) → cond came (same || later) (cond same later twice) ≡ false → cond (same || came) later twice ≡ false
+again true true later twice h = absurd (true≢false h)
+again true false later twice h = h
+again false true later twice h = h
+again false false later twice h = h
 
--- an operand among words is neither flag
-module _ (x : ℕ) (xs : List ℕ) (e : (x == 45) ≡ false) where
+once_behind_flag : (f : Flag) (came : Flag → Bool) (words : List Text) → ComeOnce came (flag_word f ∷ words) → ComeOnce (also f came) words
+once_behind_flag f came words once =
+    λ g. again (bytes_eq (flag_word f) (flag_word g)) (came g) (stands (flag_word g) words) (stands_twice (flag_word g) words) (once g)
+
+came_not : (f : Flag) (came : Bool) (words : List Text)
+    → cond came (stands (flag_word f) (flag_word f ∷ words)) (stands_twice (flag_word f) (flag_word f ∷ words)) ≡ false → came ≡ false
+came_not f false words h = refl
+came_not plain true words h = absurd (true≢false h)
+came_not stats true words h = absurd (true≢false h)
+came_not key true words h = absurd (true≢false h)
+came_not jsonl true words h = absurd (true≢false h)
+
+-- an operand among words is no flag
+module _ (word : Text) (is : IsOperand word) where
   -- what is asked, where the operand is or is not taken for a flag
-  abbrev asked_as : Bool → Bool → Option Text → List Text → Bool → Bool → Option (Flags × Text)
-  asked_as p s o words is_plain is_stats =
-      option_map (λ y. (record { plain = p || (is_plain || stands (codes "--plain") words); stats = s || (is_stats || stands (codes "--stats") words) }, y))
-      (only (given_or o (cond (not (is_plain || is_stats)) ((x ∷ xs) ∷ operands words) (operands words))))
+  abbrev asked_as : (Flag → Bool) → Option Text → List Text → (Flag → Bool) → Bool → Option Asked
+  asked_as came o words taken is_taken =
+      asked_with (λ f. came f || (taken f || stands (flag_word f) words)) (given_or o (cond (not is_taken) (word ∷ operands words) (operands words)))
 
-  first_asked : (p s : Bool) (words : List Text) → asked_behind p s None ((x ∷ xs) ∷ words) ≡ asked_behind p s (Some (x ∷ xs)) words
-  first_asked p s words = ap₂ (asked_as p s None words) (not_plain x xs e) (not_stats x xs e)
+  operand_asked : (came : Flag → Bool) (o : Option Text) (words : List Text)
+      → asked_behind came o (word ∷ words) ≡ asked_as came o words (λ f. false) false
+  operand_asked came o words = λ i. asked_as came o words (λ f. is.no_flag f i) (flag_not word is.no_flag i)
 
-  next_asked : (p s : Bool) (o : Text) (words : List Text) → asked_behind p s (Some o) ((x ∷ xs) ∷ words) ≡ None
-  next_asked p s o words = ap₂ (asked_as p s (Some o) words) (not_plain x xs e) (not_stats x xs e)
-
-  once_behind : (p s : Bool) (words : List Text) → AreOnce p s ((x ∷ xs) ∷ words) → AreOnce p s words
-  once_behind p s words h = record {
-    plain = sym
-        (ap (λ b. cond p (b || stands (codes "--plain") words) (cond b (stands (codes "--plain") words) (stands_twice (codes "--plain") words)))
-        (not_plain x xs e)) ∙ h.plain;
-    stats = sym
-        (ap (λ b. cond s (b || stands (codes "--stats") words) (cond b (stands (codes "--stats") words) (stands_twice (codes "--stats") words)))
-        (not_stats x xs e)) ∙ h.stats;
-  }
+  once_behind : (came : Flag → Bool) (words : List Text) → ComeOnce came (word ∷ words) → ComeOnce came words
+  once_behind came words once = λ f.
+      let later = stands (flag_word f) words in
+      let twice = stands_twice (flag_word f) words in
+      sym (ap (λ b. cond (came f) (b || later) (cond b later twice)) (is.no_flag f)) ∙ once f
 
 abbrev place_of : Option Text → ℕ
 place_of None = 1
 place_of (Some o) = 2
 
 module _ (name : Text) where
-  unused_flag : (id : Text) (rows : List Row) → row_at id rows ≡ None → has_row id rows ≡ false
-  unused_flag id rows none = has_row_is id rows ∙ ap (λ r. is_some r) none
-
-  flags_go : (us : List Use) (p s : Bool) (o : Option Text) (rows : List Row) → Tells p s o rows → AreOnce p s (words_of us)
-      → found_from said (flagged name) (at rows None (place_of o)) (words_of us) ≡ asked_behind p s o (words_of us)
-  flags_go [] p s o rows h once = ends name p s o rows (place_of o) h
-  flags_go (plain ∷ us) true s o rows h once = absurd (true≢false once.plain)
-  flags_go (plain ∷ us) false s o rows h once =
-      let more = rows ++ flag_row (codes "plain") ∷ [] in
-      passes said (flagged name) (at rows None (place_of o)) (at more None (place_of o)) (codes "--plain") (words_of us)
-      (plain_turn name rows (place_of o) (unused_flag (codes "plain") rows h.plain)) (plain_walk name rows (place_of o) h.plain)
-      ∙ flags_go us true s o more
-      (record {
-        plain = found (codes "plain") (flag_row (codes "plain")) rows refl h.plain;
-        stats = kept (codes "stats") (flag_row (codes "plain")) rows refl ∙ h.stats;
-        operand = kept (codes "operand") (flag_row (codes "plain")) rows refl ∙ h.operand;
-      }) (record { plain = once.plain; stats = once.stats })
-  flags_go (stats ∷ us) p true o rows h once = absurd (true≢false once.stats)
-  flags_go (stats ∷ us) p false o rows h once =
-      let more = rows ++ flag_row (codes "stats") ∷ [] in
-      passes said (flagged name) (at rows None (place_of o)) (at more None (place_of o)) (codes "--stats") (words_of us)
-      (stats_turn name rows (place_of o) (unused_flag (codes "stats") rows h.stats)) (stats_walk name rows (place_of o) h.stats)
-      ∙ flags_go us p true o more
-      (record {
-        plain = kept (codes "plain") (flag_row (codes "stats")) rows refl ∙ h.plain;
-        stats = found (codes "stats") (flag_row (codes "stats")) rows refl h.stats;
-        operand = kept (codes "operand") (flag_row (codes "stats")) rows refl ∙ h.operand;
-      }) (record { plain = once.plain; stats = once.stats })
-  flags_go (operand x xs e ∷ us) p s None rows h once =
-      let word = x ∷ xs in
-      let more = rows ++ operand_row word ∷ [] in
-      passes said (flagged name) (at rows None 1) (at rows (Some word) 2) word (words_of us) (first_operand name x xs e rows)
-      (operand_walk x xs e (flagged name) (at rows None 1).held 1)
+  flags_go : (us : List Use) (came : Flag → Bool) (o : Option Text) (rows : List Row) → Tells came o rows → ComeOnce came (words_of us)
+      → found_from said (flagged name) (at rows None (place_of o)) (words_of us) ≡ asked_behind came o (words_of us)
+  flags_go [] came o rows h once = ends name came o rows (place_of o) h
+  flags_go (flag f ∷ us) came o rows h once =
+      let more = rows ++ flag_row (flag_id f) ∷ [] in
+      let first = came_not f (came f) (words_of us) (once f) in
+      let none : row_at (flag_id f) rows ≡ None = h.flags f ∙ ap (flag_found (flag_id f)) first in
+      let unused : has_row (flag_id f) rows ≡ false = has_row_is (flag_id f) rows ∙ ap (λ r. is_some r) none in
+      passes said (flagged name) (at rows None (place_of o)) (at more None (place_of o)) (flag_word f) (words_of us)
+      (flag_turn name f rows (place_of o) unused) (flag_walk name f rows (place_of o) none)
+      ∙ flags_go us (also f came) o more (flag_tells f came o rows none h) (once_behind_flag f came (words_of us) once)
+      ∙ flag_asked f came o (words_of us)
+  flags_go (operand word is ∷ us) came None rows h once =
+      passes said (flagged name) (at rows None 1) (at rows (Some word) 2) word (words_of us)
+      (operand_turn word is (flagged name) [] (at rows None 1).held 1 refl) (operand_walk word is (flagged name) (at rows None 1).held 1)
       ∙ settled_before name word rows h.operand us
-      ∙ flags_go us p s (Some word) more
-      (record {
-        plain = kept (codes "plain") (operand_row word) rows refl ∙ h.plain;
-        stats = kept (codes "stats") (operand_row word) rows refl ∙ h.stats;
-        operand = found (codes "operand") (operand_row word) rows refl h.operand;
-      }) (once_behind x xs e p s (words_of us) once)
-      ∙ sym (first_asked x xs e p s (words_of us))
-  flags_go (operand x xs e ∷ us) p s (Some o) rows h once =
-      fails said (flagged name) (at rows None 2) (x ∷ xs) (words_of us) UnknownArgument [] (next_operand name x xs e rows None)
-      ∙ sym (next_asked x xs e p s o (words_of us))
+      ∙ flags_go us came (Some word) (rows ++ operand_row word ∷ []) (operand_tells came word rows h) (once_behind word is came (words_of us) once)
+      ∙ sym (operand_asked word is came None (words_of us))
+  flags_go (operand word is ∷ us) came (Some o) rows h once =
+      fails said (flagged name) (at rows None 2) word (words_of us) UnknownArgument [] (next_operand name word is rows None)
+      ∙ sym (operand_asked word is came (Some o) (words_of us))
 
-  pub flags_found_are : (us : List Use) → stands_twice (codes "--plain") (words_of us) ≡ false → stands_twice (codes "--stats") (words_of us) ≡ false
-      → found_in said (flagged name) (words_of us) ≡ option_map (λ o. (flags_in (words_of us), o)) (only (operands (words_of us)))
-  flags_found_are us plain_once stats_once =
-      flags_go us false false None [] (record { plain = refl; stats = refl; operand = refl }) (record { plain = plain_once; stats = stats_once })
+  abbrev none_came : Flag → Bool
+  none_came f = false
+
+  pub flags_found_are : (us : List Use) → AreOnce (words_of us)
+      → found_in said (flagged name) (words_of us) ≡ option_map (λ o. (flags_in (words_of us), form_in (words_of us), o)) (only (operands (words_of us)))
+  flags_found_are us once =
+      flags_go us none_came None [] (record { flags = none_found; operand = refl }) once
+    where
+      none_found : (f : Flag) → row_at (flag_id f) [] ≡ flag_found (flag_id f) false
+      none_found f = refl

@@ -1,19 +1,19 @@
 -- What is read of the matches that clap gives.
-use Rattle.std.proofs.Common.{◌≡◌, ◌≢◌, ◌∙◌, ◌||◌, cond, true, false, refl, sym, ap, ap₂, subst, true≢false, inl, inr, List, [], ◌∷◌, Option, Some, None, is_some, Err, option_map, option_and_then, codes, bytes_eq}
+use Rattle.std.proofs.Common.{◌≡◌, ◌≢◌, ◌∙◌, ◌||◌, cond, true, false, refl, sym, ap, ap₂, subst, true≢false, inl, inr, List, [], ◌∷◌, Option, Some, None, is_some, Ok, Err, option_map, option_and_then, codes, bytes_eq}
 use Rattle.std.specs.Option.{option_map_or}
 use Rattle.std.specs.Borrow.{Bor}
 use Rattle.std.specs.Prelude.{Result}
 use Rattle.clap.proofs.WalkLemmas.{first_value-rows}
-use Rattle.clap.specs.Words.{App, FailsBy, IsAmong, Kinds, Text, fault_of, first_value, found_of, is_simple_and_free, kind_of, rows_of, subcommand_of}
+use Rattle.clap.specs.Words.{App, FailsBy, HasMatchesOf, IsAmong, Kinds, Text, fault_of, first_value, found_of, is_simple_and_free, kind_of, rows_of, subcommand_of}
 use Rattle.clap.specs.declared.error.Error.{Error}
 use Rattle.clap.specs.declared.error.kind.ErrorKind.{ErrorKind}
 use Rattle.clap.specs.declared.error.kind.ErrorKind.TheVariants.{OutOfMemory}
 use Rattle.clap.specs.declared.parser.matches.ArgMatches.{ArgMatches}
 use Rattle.clap.specs.Walk.{first_of}
-use Rattle.cf_words.specs.Commands.{Command, plain_command, verify}
-use Rattle.cf_words.proofs.GrammarLaws.{clap_agrees, is_exact}
-use Rattle.cf_words.specs.Grammar.{MatchesAnswer, clap_command, command_found, flags_found, found_unless, grammar, is_set, verify_found}
-use Rattle.cf_words.specs.Words.{WordsAnswer, about, command_for, command_in, command_of, command_parsed, may_be_parsed, may_be_read}
+use Rattle.cf_words.specs.Commands.{Command, plain_command}
+use Rattle.cf_words.proofs.GrammarLaws.{clap_agrees, is_exact, is_simple_grammar}
+use Rattle.cf_words.specs.Grammar.{MatchesAnswer, clap_command, command_found, flags_found, form_found, found_unless, grammar, is_set, verify_found}
+use Rattle.cf_words.specs.Words.{WordsAnswer, about, command_for, command_in, command_of, command_parsed, may_be_parsed, may_be_read, verify_for}
 use Rattle.cf_words.specs.declared.command.Command as declared
 use Rattle.cf_words.specs.declared.fault.WordsFault.{WordsFault}
 use Rattle.cf_words.specs.declared.fault.WordsFault.TheVariants.{Usage, NoMemory}
@@ -24,22 +24,25 @@ set_is m id o e = ap (λ t. option_map_or (λ x. bytes_eq x (codes "true")) t fa
 
 pub operand_is : (m : ArgMatches) (name : Text) (o : Option (Bor Text)) → option_map (λ s. s.now) o ≡ first_value (found_of m) (codes "operand")
     → bytes_eq name (codes "verify") ≡ false
-    → option_and_then (command_for name (flags_found (rows_of (found_of m)))) (option_map (λ s. s.now) o) ≡ command_found (Some (name, rows_of (found_of m)))
+    → option_and_then (command_for name (flags_found (rows_of (found_of m))) (form_found (rows_of (found_of m)))) (option_map (λ s. s.now) o)
+    ≡ command_found (Some (name, rows_of (found_of m)))
 operand_is m name o e other =
     let rows = rows_of (found_of m) in
-    ap₂ (λ b text. cond b (verify_found rows) (option_and_then (command_for name (flags_found rows)) text)) (sym other)
+    ap₂ (λ b text. cond b (verify_found rows) (option_and_then (command_for name (flags_found rows) (form_found rows)) text)) (sym other)
     (e ∙ first_value-rows (found_of m) (codes "operand"))
 
 -- the two operands of `verify`, as they are read
 pub no_file : (m : ArgMatches) → None ≡ first_value (found_of m) (codes "file") → None ≡ verify_found (rows_of (found_of m))
 no_file m f =
-    ap (option_and_then (λ x. option_map (verify x) (first_of (codes "steps") (rows_of (found_of m))))) (f ∙ first_value-rows (found_of m) (codes "file"))
+    ap (option_and_then (λ x. option_and_then (λ y. verify_for (x ∷ y ∷ [])) (first_of (codes "steps") (rows_of (found_of m)))))
+    (f ∙ first_value-rows (found_of m) (codes "file"))
 
 pub files_are : (m : ArgMatches) (file steps : Option (Bor Text)) → option_map (λ s. s.now) file ≡ first_value (found_of m) (codes "file")
     → option_map (λ s. s.now) steps ≡ first_value (found_of m) (codes "steps")
-    → option_and_then (λ x. option_map (verify x) (option_map (λ s. s.now) steps)) (option_map (λ s. s.now) file) ≡ verify_found (rows_of (found_of m))
+    → option_and_then (λ x. option_and_then (λ y. verify_for (x ∷ y ∷ [])) (option_map (λ s. s.now) steps)) (option_map (λ s. s.now) file)
+    ≡ verify_found (rows_of (found_of m))
 files_are m file steps f s =
-    ap₂ (λ x y. option_and_then (λ z. option_map (verify z) y) x) (f ∙ first_value-rows (found_of m) (codes "file"))
+    ap₂ (λ x y. option_and_then (λ v. option_and_then (λ w. verify_for (v ∷ w ∷ [])) y) x) (f ∙ first_value-rows (found_of m) (codes "file"))
     (s ∙ first_value-rows (found_of m) (codes "steps"))
 
 no_answer : {X : Type 0} (kind : ErrorKind) (kinds : Kinds) (answer : Option X) → IsAmong kind kinds → found_unless kinds answer ≡ None
@@ -48,6 +51,13 @@ no_answer kind (first ∷ kinds) answer among = refl
 
 -- what the contract of clap's parse says of words, where the command is told by this grammar
 module _ (app : App) (told : app ≡ grammar) (words : List Text) where
+  pub taken : (m : ArgMatches) → HasMatchesOf app words m → (is_simple_and_free app ≡ true → FailsBy {T = ArgMatches} (fault_of app words) (Ok m))
+      → MatchesAnswer (clap_command words) (Ok m)
+  taken m matches fails =
+      let found = (subst (λ a. HasMatchesOf a words m) told matches) is_simple_grammar in
+      let passed : fault_of grammar words ≡ [] = (subst (λ a. is_simple_and_free a ≡ true → fault_of a words ≡ []) told fails) is_exact in
+      ap command_found found.1 ∙ sym (ap (λ kinds. found_unless kinds (command_found (subcommand_of grammar words))) passed)
+
   pub refused : (e : Error) (f : WordsFault) → (is_simple_and_free app ≡ true → FailsBy {T = ArgMatches} (fault_of app words) (Err e))
       → (f ≡ Usage → kind_of e ≢ OutOfMemory)
       → MatchesAnswer (clap_command words) (Err f)

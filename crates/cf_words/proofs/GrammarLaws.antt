@@ -1,25 +1,24 @@
 -- What clap makes of words that may be parsed is what the definition makes of them.
-use Rattle.std.proofs.Common.{◌≡◌, ◌∙◌, ◌||◌, ◌==◌, ℕ, Bool, true, false, not, cond, refl, sym, ap, ap₂, subst, List, [], ◌∷◌, fold, Option, Some, None, is_some, option_map, option_and_then, codes, bytes_eq}
+use Rattle.std.proofs.Common.{◌≡◌, ◌∙◌, ◌||◌, Bool, true, false, cond, refl, sym, ap, ap₂, subst, List, [], ◌∷◌, fold, Option, Some, None, is_some, option_map, option_and_then, codes, bytes_eq}
 use Rattle.std.proofs.Common.{◌⊎◌, inl, inr}
 use Rattle.std.proofs.lemmas.Slice.Eq.{bytes_eq-Decides}
 use Rattle.std.specs.List.{list_all}
 use Rattle.clap.proofs.FaultLemmas.{stopped_fault}
 use Rattle.clap.proofs.OnLiterals.{clap_on_literals}
-use Rattle.clap.proofs.SimpleLemmas.{is_false}
 use Rattle.clap.proofs.WalkLemmas.{both, walk_stopped}
 use Rattle.clap.specs.Faults.{entered_fault, is_simple_and_free, check_fault, defaults_fault, level_fault, settle_fault, turn_fault, walk_fault}
 use Rattle.clap.specs.Kinds.{Kinds, or_else}
-use Rattle.clap.specs.Simple.{Shape, built, entered, names_of}
+use Rattle.clap.specs.Simple.{Shape, built, entered, is_simple, names_of}
 use Rattle.clap.specs.Walk.{Row, Text, Walk, first_of, finished, idle, nothing_held, rows_after, settled, subcommand_met, walk_from, walked}
 use Rattle.clap.specs.declared.error.kind.ErrorKind.TheVariants.{InvalidSubcommand, UnknownArgument}
-use Rattle.cf_words.specs.Commands.{Command, compile as the_compile, run as the_run, pre as the_pre, check as the_check, exec as the_exec, prove as the_prove, gen as the_gen}
-use Rattle.cf_words.specs.Grammar.{clap_command, command_found, flags_found, found_unless, grammar, verify_found}
-use Rattle.cf_words.specs.Words.{command_for, command_in, flags_in, is_flag, is_operand, may_be_parsed, only, operands, size_of, stands, stands_twice, verify_for}
+use Rattle.cf_words.specs.Commands.{Command, compile as the_compile, pre as the_pre, check as the_check, prove as the_prove, gen as the_gen}
+use Rattle.cf_words.specs.Grammar.{clap_command, command_found, flags_found, form_found, found_unless, grammar, verify_found}
+use Rattle.cf_words.specs.Words.{asks_passes, asks_replies, command_for, command_in, command_without_input, exec_for, flags_in, form_in, is_flag, is_operand, may_be_parsed, only, operands, run_for, size_of, stands, stands_twice, verify_for}
 use Rattle.cf_words.specs.declared.command.Flags.{Flags}
-use Rattle.cf_words.proofs.Uses.{Use, words_of, not_plain, not_stats, uses_of, plain, stats, operand}
-use Rattle.cf_words.proofs.LevelLaws.{said, found_in, at, operand_turn, cond_same}
+use Rattle.cf_words.specs.declared.command.ReplyForm.{ReplyForm}
+use Rattle.cf_words.proofs.Uses.{AreOnce, Flag, IsOperand, Use, flag_word, once_of, uses_of, words_of, plain, stats, key, jsonl, flag, operand}
+use Rattle.cf_words.proofs.LevelLaws.{Asked, said, found_in, at, operand_turn, cond_same}
 use Rattle.cf_words.proofs.FlaggedLaws.{flagged, flags_found_are}
-use Rattle.cf_words.proofs.BareLaws.{bare, bare_found_are, no_flags}
 use Rattle.cf_words.proofs.PairedLaws.{paired, paired_found_are}
 
 pub data Verb : Type 0 where
@@ -61,46 +60,49 @@ start = walk_from nothing_held
 abbrev stopped_at : Text → List Text → Walk
 stopped_at name words = record start { stopped = Some (name, words) }
 
-abbrev command_with : Text → Flags × Text → Option Command
-command_with name p = command_for name p.0 p.1
+abbrev command_with : Text → Asked → Option Command
+command_with name asked = command_for name asked.0 asked.1 asked.2
 
 -- what a first word asks with flags and an operand
-with_flags : (name : Text) (f : Flags) (o : Option Text)
-    → option_and_then (command_with name) (option_map (λ x. (f, x)) o) ≡ option_and_then (command_for name f) o
-with_flags name f None = refl
-with_flags name f (Some o) = refl
+with_asked : (name : Text) (f : Flags) (g : ReplyForm) (o : Option Text)
+    → option_and_then (command_with name) (option_map (λ x. (f, g, x)) o) ≡ option_and_then (command_for name f g) o
+with_asked name f g None = refl
+with_asked name f g (Some o) = refl
 
--- what is asked by a subcommand with this shape and one operand, and by `verify`
-abbrev asked_of_one : Shape → Text → List Text → Option Command
-asked_of_one shape name words = option_and_then (command_with name) (found_in said shape words)
+-- what is asked by a subcommand with one operand, and by `verify`
+abbrev asked_of_one : Text → List Text → Option Command
+asked_of_one name words = option_and_then (command_with name) (found_in said (flagged name) words)
 
 abbrev asked_of : Verb → List Text → Option Command
-asked_of compile words = asked_of_one (flagged (codes "compile")) (codes "compile") words
-asked_of run words = asked_of_one (flagged (codes "run")) (codes "run") words
-asked_of pre words = asked_of_one (bare (codes "pre")) (codes "pre") words
-asked_of check words = asked_of_one (bare (codes "check")) (codes "check") words
-asked_of exec words = asked_of_one (bare (codes "exec")) (codes "exec") words
-asked_of prove words = asked_of_one (bare (codes "prove")) (codes "prove") words
+asked_of compile words = asked_of_one (codes "compile") words
+asked_of run words = asked_of_one (codes "run") words
+asked_of pre words = asked_of_one (codes "pre") words
+asked_of check words = asked_of_one (codes "check") words
+asked_of exec words = asked_of_one (codes "exec") words
+asked_of prove words = asked_of_one (codes "prove") words
 asked_of verify words = found_in verify_found (paired (codes "verify")) words
-asked_of gen words = asked_of_one (bare (codes "gen")) (codes "gen") words
+asked_of gen words = asked_of_one (codes "gen") words
 
 abbrev kinds_in : Shape → List Text → Kinds
 kinds_in s words = level_fault s [] nothing_held words false []
 
 level_asks : (name : Text) (kinds : Kinds) (rows : List Row)
-    → found_unless (or_else kinds []) (option_and_then (command_for name (flags_found rows)) (first_of (codes "operand") rows))
+    → found_unless (or_else kinds []) (option_and_then (command_for name (flags_found rows) (form_found rows)) (first_of (codes "operand") rows))
     ≡ option_and_then (command_with name) (found_unless kinds (said rows))
-level_asks name [] rows = sym (with_flags name (flags_found rows) (first_of (codes "operand") rows))
+level_asks name [] rows = sym (with_asked name (flags_found rows) (form_found rows) (first_of (codes "operand") rows))
 level_asks name (kind ∷ kinds) rows = refl
 
 level_verifies : (kinds : Kinds) (rows : List Row) → found_unless (or_else kinds []) (verify_found rows) ≡ found_unless kinds (verify_found rows)
 level_verifies [] rows = refl
 level_verifies (kind ∷ kinds) rows = refl
 
-asks_one : (shape : Shape) (name : Text) (words : List Text)
-    → found_unless (or_else (kinds_in shape words) []) (option_and_then (command_for name (flags_found (rows_after shape.rules [] words)))
-    (first_of (codes "operand") (rows_after shape.rules [] words))) ≡ asked_of_one shape name words
-asks_one shape name words = level_asks name (kinds_in shape words) (rows_after shape.rules [] words)
+abbrev rows_behind : Text → List Text → List Row
+rows_behind name words = rows_after (flagged name).rules [] words
+
+asks_one : (name : Text) (words : List Text)
+    → found_unless (or_else (kinds_in (flagged name) words) []) (option_and_then (command_for name (flags_found (rows_behind name words))
+    (form_found (rows_behind name words))) (first_of (codes "operand") (rows_behind name words))) ≡ asked_of_one name words
+asks_one name words = level_asks name (kinds_in (flagged name) words) (rows_behind name words)
 
 -- the words behind a subcommand are left to it
 entering : (v : Verb) (words : List Text) → clap_command (verb_word v ∷ words) ≡ top_command [] (stopped_at (verb_word v) words)
@@ -124,48 +126,31 @@ entering gen words = ap₂ top_command (stopped_fault (built grammar).top (names
 
 entered_is : (v : Verb) (words : List Text) → top_command [] (stopped_at (verb_word v) words) ≡ asked_of v words
 unfolding clap_on_literals
-entered_is compile words = asks_one (flagged (codes "compile")) (codes "compile") words
-entered_is run words = asks_one (flagged (codes "run")) (codes "run") words
-entered_is pre words = asks_one (bare (codes "pre")) (codes "pre") words
-entered_is check words = asks_one (bare (codes "check")) (codes "check") words
-entered_is exec words = asks_one (bare (codes "exec")) (codes "exec") words
-entered_is prove words = asks_one (bare (codes "prove")) (codes "prove") words
+entered_is compile words = asks_one (codes "compile") words
+entered_is run words = asks_one (codes "run") words
+entered_is pre words = asks_one (codes "pre") words
+entered_is check words = asks_one (codes "check") words
+entered_is exec words = asks_one (codes "exec") words
+entered_is prove words = asks_one (codes "prove") words
 entered_is verify words = level_verifies (kinds_in (paired (codes "verify")) words) (rows_after (paired (codes "verify")).rules [] words)
-entered_is gen words = asks_one (bare (codes "gen")) (codes "gen") words
+entered_is gen words = asks_one (codes "gen") words
 
--- a flag leaves a command without flags nothing
-without_flags : (b : Bool) (name : Text) (o : Option Text)
-    → option_and_then (command_with name) (cond b None (option_map (λ x. (no_flags, x)) o)) ≡ option_and_then (λ x. cond b None (command_for name no_flags x)) o
-without_flags true name None = refl
-without_flags true name (Some o) = refl
-without_flags false name None = refl
-without_flags false name (Some o) = refl
+module _ (us : List Use) (once : AreOnce (words_of us)) where
+  asked_is_one : (name : Text)
+      → asked_of_one name (words_of us) ≡ option_and_then (command_for name (flags_in (words_of us)) (form_in (words_of us))) (only (operands (words_of us)))
+  asked_is_one name =
+      ap (option_and_then (command_with name)) (flags_found_are name us once)
+      ∙ with_asked name (flags_in (words_of us)) (form_in (words_of us)) (only (operands (words_of us)))
 
-module _ (us : List Use) (plain_once : stands_twice (codes "--plain") (words_of us) ≡ false)
-    (stats_once : stands_twice (codes "--stats") (words_of us) ≡ false) where
   asked_is : (v : Verb) → asked_of v (words_of us) ≡ command_in (verb_word v ∷ words_of us)
-  asked_is compile =
-      ap (option_and_then (command_with (codes "compile"))) (flags_found_are (codes "compile") us plain_once stats_once)
-      ∙ with_flags (codes "compile") (flags_in (words_of us)) (only (operands (words_of us)))
-  asked_is run =
-      ap (option_and_then (command_with (codes "run"))) (flags_found_are (codes "run") us plain_once stats_once)
-      ∙ with_flags (codes "run") (flags_in (words_of us)) (only (operands (words_of us)))
-  asked_is pre =
-      ap (option_and_then (command_with (codes "pre"))) (bare_found_are (codes "pre") us)
-      ∙ without_flags (stands (codes "--plain") (words_of us) || stands (codes "--stats") (words_of us)) (codes "pre") (only (operands (words_of us)))
-  asked_is check =
-      ap (option_and_then (command_with (codes "check"))) (bare_found_are (codes "check") us)
-      ∙ without_flags (stands (codes "--plain") (words_of us) || stands (codes "--stats") (words_of us)) (codes "check") (only (operands (words_of us)))
-  asked_is exec =
-      ap (option_and_then (command_with (codes "exec"))) (bare_found_are (codes "exec") us)
-      ∙ without_flags (stands (codes "--plain") (words_of us) || stands (codes "--stats") (words_of us)) (codes "exec") (only (operands (words_of us)))
-  asked_is prove =
-      ap (option_and_then (command_with (codes "prove"))) (bare_found_are (codes "prove") us)
-      ∙ without_flags (stands (codes "--plain") (words_of us) || stands (codes "--stats") (words_of us)) (codes "prove") (only (operands (words_of us)))
+  asked_is compile = asked_is_one (codes "compile")
+  asked_is run = asked_is_one (codes "run")
+  asked_is pre = asked_is_one (codes "pre")
+  asked_is check = asked_is_one (codes "check")
+  asked_is exec = asked_is_one (codes "exec")
+  asked_is prove = asked_is_one (codes "prove")
   asked_is verify = paired_found_are (codes "verify") us
-  asked_is gen =
-      ap (option_and_then (command_with (codes "gen"))) (bare_found_are (codes "gen") us)
-      ∙ without_flags (stands (codes "--plain") (words_of us) || stands (codes "--stats") (words_of us)) (codes "gen") (only (operands (words_of us)))
+  asked_is gen = asked_is_one (codes "gen")
 
   verb_first : (v : Verb) → clap_command (verb_word v ∷ words_of us) ≡ command_in (verb_word v ∷ words_of us)
   verb_first v = entering v (words_of us) ∙ entered_is v (words_of us) ∙ asked_is v
@@ -234,19 +219,25 @@ none_then : (g : Text → Option Command) (o : Option Text) → ((x : Text) → 
 none_then g None h = refl
 none_then g (Some o) h = h o
 
-other_asks_none : (f : Flags) (word : Text) → IsOther word → (x : Text) → command_for word f x ≡ None
-other_asks_none f word h x =
-    (λ i. cond (h.compile.1 i) (Some (the_compile f x)) (cond (h.run.1 i) (Some (the_run f x)) (cond (f.plain || f.stats) None
-    (cond (h.pre.1 i) (Some (the_pre x)) (cond (h.check.1 i) (Some (the_check x)) (cond (h.exec.1 i) (Some (the_exec x))
-    (cond (h.prove.1 i) (Some (the_prove x)) (cond (h.gen.1 i) (option_map the_gen (size_of x)) None))))))))
-    ∙ cond_same (f.plain || f.stats) None
+other_without_input : (f : Flags) (word : Text) → IsOther word → (x : Text) → command_without_input word f x ≡ None
+other_without_input f word h x =
+    (λ i. cond (h.compile.1 i) (Some (the_compile f x)) (cond (asks_passes f) None
+    (cond (h.pre.1 i) (Some (the_pre x)) (cond (h.check.1 i) (Some (the_check x))
+    (cond (h.prove.1 i) (Some (the_prove x)) (cond (h.gen.1 i) (option_map the_gen (size_of x)) None))))))
+    ∙ cond_same (asks_passes f) None
+
+other_asks_none : (f : Flags) (g : ReplyForm) (word : Text) → IsOther word → (x : Text) → command_for word f g x ≡ None
+other_asks_none f g word h x =
+    (λ i. cond (h.run.1 i) (run_for f g x) (cond (h.exec.1 i) (exec_for f g x) (cond (asks_replies g) None (other_without_input f word h x i))))
+    ∙ cond_same (asks_replies g) None
 
 -- behind such a word nothing is asked
 other_in : (w : Text) (words : List Text) → IsOther w → command_in (w ∷ words) ≡ None
 other_in w words h =
     let f = flags_in words in
-    ap (λ b. cond b (verify_for f (operands words)) (option_and_then (command_for w f) (only (operands words)))) h.verify.1
-    ∙ none_then (command_for w f) (only (operands words)) (other_asks_none f w h)
+    let g = form_in words in
+    ap (λ b. cond b (verify_for words) (option_and_then (command_for w f g) (only (operands words)))) h.verify.1
+    ∙ none_then (command_for w f g) (only (operands words)) (other_asks_none f g w h)
 
 abbrev hit : Text → Option (Text × List Text)
 hit name = Some (name, [])
@@ -259,9 +250,9 @@ no_subcommand w h =
     (cond (h.prove.0 i || false) (hit (codes "prove")) (cond (h.verify.0 i || false) (hit (codes "verify")) (cond (h.gen.0 i || false) (hit (codes "gen"))
     None))))))))
 
-stray : (x : ℕ) (xs : List ℕ) (e : (x == 45) ≡ false) → IsOther (x ∷ xs)
-    → turn_fault (built grammar).top (names_of (built grammar)) (at [] None 1) (x ∷ xs) ≡ UnknownArgument ∷ InvalidSubcommand ∷ []
-stray x xs e h = operand_turn x xs e (built grammar).top (names_of (built grammar)) (at [] None 1).held 1 (no_subcommand (x ∷ xs) h)
+stray : (w : Text) (is : IsOperand w) → IsOther w
+    → turn_fault (built grammar).top (names_of (built grammar)) (at [] None 1) w ≡ UnknownArgument ∷ InvalidSubcommand ∷ []
+stray w is h = operand_turn w is (built grammar).top (names_of (built grammar)) (at [] None 1).held 1 (no_subcommand w h)
 
 abbrev top_turn : List Text → Kinds → Walk → Option Command
 top_turn words turn w =
@@ -269,46 +260,56 @@ top_turn words turn w =
     let names = names_of (built grammar) in
     top_command (or_else turn (walk_fault top names w words)) (fold (walked top.rules names) w words)
 
-other_first : (x : ℕ) (xs : List ℕ) (e : (x == 45) ≡ false) (words : List Text) → IsOther (x ∷ xs) → clap_command ((x ∷ xs) ∷ words) ≡ None
+other_first : (w : Text) (is : IsOperand w) (words : List Text) → IsOther w → clap_command (w ∷ words) ≡ None
 unfolding walk_fault
-other_first x xs e words h =
-    ap (λ turn. top_turn words turn (walked (built grammar).top.rules (names_of (built grammar)) start (x ∷ xs))) (stray x xs e h)
+other_first w is words h =
+    ap (λ turn. top_turn words turn (walked (built grammar).top.rules (names_of (built grammar)) start w)) (stray w is h)
 
-all_first : (us : List Use) (w : Text) → Named w → (x : ℕ) (xs : List ℕ) (e : (x == 45) ≡ false) → x ∷ xs ≡ w
-    → stands_twice (codes "--plain") (words_of us) ≡ false → stands_twice (codes "--stats") (words_of us) ≡ false
+operand_first : (us : List Use) (w : Text) (is : IsOperand w) → Named w → AreOnce (words_of us)
     → clap_command (w ∷ words_of us) ≡ command_in (w ∷ words_of us)
-all_first us w (verb v is) x xs e here plain_once stats_once =
-    subst (λ y. clap_command (y ∷ words_of us) ≡ command_in (y ∷ words_of us)) is (verb_first us plain_once stats_once v)
-all_first us w (other h) x xs e here plain_once stats_once =
-    subst (λ y. clap_command (y ∷ words_of us) ≡ None) here (other_first x xs e (words_of us) (subst IsOther (sym here) h))
-    ∙ sym (other_in w (words_of us) h)
+operand_first us w is (verb v e) once = subst (λ y. clap_command (y ∷ words_of us) ≡ command_in (y ∷ words_of us)) e (verb_first us once v)
+operand_first us w is (other h) once = other_first w is (words_of us) h ∙ sym (other_in w (words_of us) h)
 
-uses_go : (us : List Use) → stands_twice (codes "--plain") (words_of us) ≡ false → stands_twice (codes "--stats") (words_of us) ≡ false
-    → clap_command (words_of us) ≡ command_in (words_of us)
+-- a flag is no verb
+no_verb : (f : Flag) → IsOther (flag_word f)
+no_verb f = record {
+  compile = (refl, refl);
+  run = (refl, refl);
+  pre = (refl, refl);
+  check = (refl, refl);
+  exec = (refl, refl);
+  prove = (refl, refl);
+  verify = (refl, refl);
+  gen = (refl, refl);
+}
+
+flag_before : (f : Flag) (words : List Text) → clap_command (flag_word f ∷ words) ≡ None
 unfolding clap_on_literals
-uses_go [] plain_once stats_once = refl
-uses_go (plain ∷ us) plain_once stats_once =
-    let f = flags_in (words_of us) in
-    sym (none_then (command_for (codes "--plain") f) (only (operands (words_of us))) (λ x. cond_same (f.plain || f.stats) None))
-uses_go (stats ∷ us) plain_once stats_once =
-    let f = flags_in (words_of us) in
-    sym (none_then (command_for (codes "--stats") f) (only (operands (words_of us))) (λ x. cond_same (f.plain || f.stats) None))
-uses_go (operand x xs e ∷ us) plain_once stats_once =
-    let words = words_of us in
-    all_first us (x ∷ xs) (named (x ∷ xs)) x xs e refl
-    (sym (ap (λ b. cond b (stands (codes "--plain") words) (stands_twice (codes "--plain") words)) (not_plain x xs e)) ∙ plain_once)
-    (sym (ap (λ b. cond b (stands (codes "--stats") words) (stands_twice (codes "--stats") words)) (not_stats x xs e)) ∙ stats_once)
+flag_before plain words = refl
+flag_before stats words = refl
+flag_before key words = refl
+flag_before jsonl words = refl
+
+uses_go : (us : List Use) → AreOnce (words_of us) → clap_command (words_of us) ≡ command_in (words_of us)
+unfolding clap_on_literals
+uses_go [] once = refl
+uses_go (flag f ∷ us) once = flag_before f (words_of us) ∙ sym (other_in (flag_word f) (words_of us) (no_verb f))
+uses_go (operand word is ∷ us) once =
+    operand_first us word is (named word)
+    (λ f. sym (ap (λ b. cond b (stands (flag_word f) (words_of us)) (stands_twice (flag_word f) (words_of us))) (is.no_flag f)) ∙ once f)
 
 -- what clap makes of words that may be parsed
 pub clap_agrees : (words : List Text) → may_be_parsed words ≡ true → clap_command words ≡ command_in words
 clap_agrees words h =
     let parts = both (list_all (λ w. is_flag w || is_operand w) words) _ h in
-    let once = both (not (stands_twice (codes "--plain") words)) _ parts.1 in
     let us = uses_of words parts.0 in
-    subst (λ ws. clap_command ws ≡ command_in ws) us.1
-    (uses_go us.0 (ap (stands_twice (codes "--plain")) us.1 ∙ is_false _ once.0) (ap (stands_twice (codes "--stats")) us.1 ∙ is_false _ once.1))
+    subst (λ ws. clap_command ws ≡ command_in ws) us.1 (uses_go us.0 (subst AreOnce (sym us.1) (once_of words parts.1)))
 
 -- clap's contract says what a parse by this grammar gives, and why it fails
+pub is_simple_grammar : is_simple grammar ≡ true
+unfolding clap_on_literals
+is_simple_grammar = refl
+
 pub is_exact : is_simple_and_free grammar ≡ true
 unfolding clap_on_literals
 is_exact = refl

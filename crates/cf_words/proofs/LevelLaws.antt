@@ -1,22 +1,27 @@
 -- One more word of clap's walk behind a subcommand.
-use Rattle.std.proofs.Common.{◌≡◌, ◌∙◌, ◌||◌, ◌==◌, ℕ, Bool, true, false, cond, refl, sym, ap, ap₂, List, [], ◌∷◌, fold, Option, Some, None, option_map, codes, bytes_eq}
+use Rattle.std.proofs.Common.{◌≡◌, ◌∙◌, ℕ, Bool, true, false, cond, refl, sym, ap, ap₂, List, [], ◌∷◌, fold, Option, Some, None, option_map, codes}
 use Rattle.std.specs.Option.{option_map_or}
 use Rattle.clap.proofs.FaultLemmas.{turn_is}
 use Rattle.clap.proofs.WalkLemmas.{walked_is}
 use Rattle.clap.specs.Faults.{bundle_fault, check_fault, flag_word_fault, defaults_fault, level_fault, other_fault, settle_fault, step_fault, turn_fault, walk_fault, word_fault}
 use Rattle.clap.specs.Kinds.{Kinds, or_else}
-use Rattle.clap.specs.Lexer.{long_of, short_of}
 use Rattle.clap.specs.Simple.{Shape}
 use Rattle.clap.specs.Walk.{Held, Names, Rule, Row, Text, Walk, after_step, first_of, finished, idle, long_or_other, nothing_held, rows_after, settled, short_or_plain, subcommand_met, subcommand_or_other, trailing, value, walked, word_met}
 use Rattle.clap.specs.declared.builder.value_parser.Reading.TheVariants.{AsWritten}
 use Rattle.clap.specs.declared.parser.matches.ValueSource.TheVariants.{CommandLine}
 use Rattle.cf_words.proofs.RowLemmas.{row_of_values}
-use Rattle.cf_words.specs.Grammar.{flags_found, found_unless}
+use Rattle.cf_words.proofs.Uses.{IsOperand}
+use Rattle.cf_words.specs.Grammar.{flags_found, form_found, found_unless}
 use Rattle.cf_words.specs.declared.command.Flags.{Flags}
+use Rattle.cf_words.specs.declared.command.ReplyForm.{ReplyForm}
+
+-- what a command on one operand is asked
+abbrev pub Asked : Type 0
+Asked = Flags × ReplyForm × Text
 
 -- what is found in rows
-abbrev pub said : List Row → Option (Flags × Text)
-said rows = option_map (λ o. (flags_found rows, o)) (first_of (codes "operand") rows)
+abbrev pub said : List Row → Option Asked
+said rows = option_map (λ o. (flags_found rows, form_found rows, o)) (first_of (codes "operand") rows)
 
 -- what a level comes to from a walk on
 abbrev pub end_of : Shape → Walk → List Text → Held
@@ -70,39 +75,30 @@ row_with id o = row_of_values id AsWritten CommandLine (o ∷ [])
 abbrev pub operand_row : Text → Row
 operand_row o = row_with (codes "operand") o
 
--- an operand is no flag
-module _ (x : ℕ) (xs : List ℕ) (e : (x == 45) ≡ false) where
-  pub no_dashes : bytes_eq (x ∷ xs) (45 ∷ 45 ∷ []) ≡ false
-  no_dashes = rw e refl
-
-  pub no_long : long_of (x ∷ xs) ≡ None
-  no_long = rw e refl
-
-  pub no_short : short_of (x ∷ xs) ≡ None
-  no_short = rw e refl
-
-  pub operand_met : (c : List Rule) (names : Names) (position : ℕ) (h : Held) → subcommand_met names idle (x ∷ xs) ≡ None
-      → word_met c names false idle position (x ∷ xs) h ≡ (h, value)
+-- an operand is a value
+module _ (word : Text) (is : IsOperand word) where
+  pub operand_met : (c : List Rule) (names : Names) (position : ℕ) (h : Held) → subcommand_met names idle word ≡ None
+      → word_met c names false idle position word h ≡ (h, value)
   operand_met c names position h none =
-      ap (λ met. subcommand_or_other c met idle position (x ∷ xs) h) none
-      ∙ ap₂ (λ dashes long. cond dashes (h, trailing position) (long_or_other c idle (x ∷ xs) long h)) no_dashes no_long
-      ∙ ap (λ short. short_or_plain c idle (x ∷ xs) short h) no_short
+      ap (λ met. subcommand_or_other c met idle position word h) none
+      ∙ ap₂ (λ dashes long. cond dashes (h, trailing position) (long_or_other c idle word long h)) is.no_dashes is.no_long
+      ∙ ap (λ short. short_or_plain c idle word short h) is.no_short
 
-  pub operand_fits : (s : Shape) (names : Names) (h : Held) → subcommand_met names idle (x ∷ xs) ≡ None → word_fault s names false idle (x ∷ xs) h ≡ []
+  pub operand_fits : (s : Shape) (names : Names) (h : Held) → subcommand_met names idle word ≡ None → word_fault s names false idle word h ≡ []
   operand_fits s names h none =
-      ap (λ met. other_fault s met (x ∷ xs) h) none
-      ∙ ap₂ (λ dashes long. cond dashes [] (flag_word_fault s.rules s.args_override_self long (x ∷ xs) h)) no_dashes no_long
-      ∙ ap (λ short. option_map_or (λ flags. bundle_fault s.rules s.args_override_self flags h) short []) no_short
+      ap (λ met. other_fault s met word h) none
+      ∙ ap₂ (λ dashes long. cond dashes [] (flag_word_fault s.rules s.args_override_self long word h)) is.no_dashes is.no_long
+      ∙ ap (λ short. option_map_or (λ flags. bundle_fault s.rules s.args_override_self flags h) short []) is.no_short
 
-  pub operand_turn : (s : Shape) (names : Names) (h : Held) (position : ℕ) → subcommand_met names idle (x ∷ xs) ≡ None
-      → turn_fault s names (between h position) (x ∷ xs) ≡ step_fault s position h value
+  pub operand_turn : (s : Shape) (names : Names) (h : Held) (position : ℕ) → subcommand_met names idle word ≡ None
+      → turn_fault s names (between h position) word ≡ step_fault s position h value
   operand_turn s names h position none =
-      sym (turn_is s names (between h position) (x ∷ xs) h value (sym (operand_met s.rules names position h none)) (operand_fits s names h none))
+      sym (turn_is s names (between h position) word h value (sym (operand_met s.rules names position h none)) (operand_fits s names h none))
 
   pub operand_walk : (s : Shape) (h : Held) (position : ℕ)
-      → walked s.rules [] (between h position) (x ∷ xs) ≡ after_step s.rules (x ∷ xs) (between h position) h value
+      → walked s.rules [] (between h position) word ≡ after_step s.rules word (between h position) h value
   operand_walk s h position =
-      sym (walked_is s.rules [] (between h position) (x ∷ xs) h value (sym (operand_met s.rules [] position h refl)))
+      sym (walked_is s.rules [] (between h position) word h value (sym (operand_met s.rules [] position h refl)))
 
 -- the operand that came before, if one came, and those that come
 abbrev pub given_or : Option Text → List Text → List Text
@@ -112,7 +108,3 @@ given_or (Some o) words = o ∷ words
 pub cond_same : {X : Type 0} (b : Bool) (x : X) → cond b x x ≡ x
 cond_same true x = refl
 cond_same false x = refl
-
-pub or_true : (b : Bool) → (b || true) ≡ true
-or_true true = refl
-or_true false = refl

@@ -3,7 +3,6 @@ pub mod RowLemmas
 pub mod Uses
 pub mod LevelLaws
 pub mod FlaggedLaws
-pub mod BareLaws
 pub mod PairedLaws
 pub mod GrammarLaws
 pub mod FoundLemmas

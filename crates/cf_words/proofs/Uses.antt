@@ -1,51 +1,144 @@
 -- Words that may be read, as flags and operands.
-use Rattle.std.proofs.Common.{◌≡◌, ◌∙◌, ◌||◌, ◌==◌, ℕ, Bool, true, false, refl, sym, ap₂, true≢false, List, [], ◌∷◌, map, codes, bytes_eq}
+use Rattle.std.proofs.Common.{◌≡◌, ◌∙◌, ◌||◌, ◌==◌, ◌++◌, ℕ, Bool, true, false, not, refl, sym, ap, true≢false, List, [], ◌∷◌, None, map, codes, bytes_eq}
+use Rattle.std.proofs.Common.{◌⊎◌, inl, inr}
 use Rattle.std.proofs.lemmas.Slice.Eq.{bytes_eq-Decides}
 use Rattle.std.specs.List.{list_all}
-use Rattle.clap.proofs.SimpleLemmas.{is_false}
 use Rattle.clap.proofs.WalkLemmas.{both}
+use Rattle.clap.specs.Lexer.{long_of, short_of}
 use Rattle.clap.specs.Walk.{Text}
-use Rattle.cf_words.specs.Words.{is_flag, is_operand}
+use Rattle.cf_words.specs.Words.{are_once, is_flag, is_operand, stands_twice}
+
+pub data Flag : Type 0 where
+  plain : Flag
+  stats : Flag
+  key : Flag
+  jsonl : Flag
+
+abbrev pub flag_id : Flag → Text
+flag_id plain = codes "plain"
+flag_id stats = codes "stats"
+flag_id key = codes "key"
+flag_id jsonl = codes "jsonl"
+
+abbrev pub flag_word : Flag → Text
+flag_word f = codes "--" ++ flag_id f
+
+-- what is seen in a word that is an operand
+pub record IsOperand (word : Text) : Type 0 where
+  pub no_dashes : bytes_eq word (codes "--") ≡ false
+  pub no_long : long_of word ≡ None
+  pub no_short : short_of word ≡ None
+  pub no_flag : (f : Flag) → bytes_eq word (flag_word f) ≡ false
 
 -- a word that may be read
 pub data Use : Type 0 where
-  plain : Use
-  stats : Use
-  operand : (x : ℕ) (xs : List ℕ) → (x == 45) ≡ false → Use
+  flag : Flag → Use
+  operand : (word : Text) → IsOperand word → Use
 
 abbrev pub word_of : Use → Text
-word_of plain = codes "--plain"
-word_of stats = codes "--stats"
-word_of (operand x xs e) = x ∷ xs
+word_of (flag f) = flag_word f
+word_of (operand word is) = word
 
 abbrev pub words_of : List Use → List Text
 words_of us = map word_of us
 
--- an operand is neither flag
-module _ (x : ℕ) (xs : List ℕ) (e : (x == 45) ≡ false) where
-  pub not_plain : bytes_eq (x ∷ xs) (codes "--plain") ≡ false
-  not_plain = rw e refl
+pub flag_is : (f : Flag) → is_flag (flag_word f) ≡ true
+flag_is plain = refl
+flag_is stats = refl
+flag_is key = refl
+flag_is jsonl = refl
 
-  pub not_stats : bytes_eq (x ∷ xs) (codes "--stats") ≡ false
-  not_stats = rw e refl
+pub flag_not : (word : Text) → ((f : Flag) → bytes_eq word (flag_word f) ≡ false) → is_flag word ≡ false
+flag_not word none = λ i. (none plain i || none stats i || none key i || none jsonl i)
+
+-- a word is one of the flags or none
+by_flag : (word : Text) → bytes_eq word (codes "--plain") ≡ false → bytes_eq word (codes "--stats") ≡ false → bytes_eq word (codes "--key") ≡ false
+    → bytes_eq word (codes "--jsonl") ≡ false → (f : Flag) → bytes_eq word (flag_word f) ≡ false
+by_flag word p s k j plain = p
+by_flag word p s k j stats = s
+by_flag word p s k j key = k
+by_flag word p s k j jsonl = j
+
+flag_named : (word : Text) → ((f : Flag) × (flag_word f ≡ word)) ⊎ ((f : Flag) → bytes_eq word (flag_word f) ≡ false)
+flag_named word =
+    go (bytes_eq word (codes "--plain")) refl (bytes_eq word (codes "--stats")) refl (bytes_eq word (codes "--key")) refl (bytes_eq word (codes "--jsonl")) refl
+  where
+    go : (p : Bool) → bytes_eq word (codes "--plain") ≡ p → (s : Bool) → bytes_eq word (codes "--stats") ≡ s
+        → (k : Bool) → bytes_eq word (codes "--key") ≡ k → (j : Bool) → bytes_eq word (codes "--jsonl") ≡ j
+        → ((f : Flag) × (flag_word f ≡ word)) ⊎ ((f : Flag) → bytes_eq word (flag_word f) ≡ false)
+    go true is s e k f j g = inl (plain, sym ((bytes_eq-Decides word (codes "--plain")).0 is))
+    go false d true is k f j g = inl (stats, sym ((bytes_eq-Decides word (codes "--stats")).0 is))
+    go false d false e true is j g = inl (key, sym ((bytes_eq-Decides word (codes "--key")).0 is))
+    go false d false e false f true is = inl (jsonl, sym ((bytes_eq-Decides word (codes "--jsonl")).0 is))
+    go false d false e false f false g = inr (by_flag word d e f g)
+
+-- a name is an operand, and so is the dash
+name_is : (x : ℕ) (xs : List ℕ) → (x == 45) ≡ false → ((f : Flag) → bytes_eq (x ∷ xs) (flag_word f) ≡ false) → IsOperand (x ∷ xs)
+name_is x xs e none = record {
+  no_dashes = rw e refl;
+  no_long = rw e refl;
+  no_short = rw e refl;
+  no_flag = none;
+}
+
+dash_is : IsOperand (codes "-")
+dash_is = record {
+  no_dashes = refl;
+  no_long = refl;
+  no_short = refl;
+  no_flag = by_flag (codes "-") refl refl refl refl;
+}
 
 -- words that may be read are uses
-pub operand_of : (w : Text) → is_operand w ≡ true → (u : Use) × (word_of u ≡ w)
-operand_of [] h = absurd (true≢false (sym h))
-operand_of (x ∷ xs) h = (operand x xs (is_false (x == 45) h), refl)
-
-pub use_of : (w : Text) → (is_flag w || is_operand w) ≡ true → (u : Use) × (word_of u ≡ w)
-use_of w h = go (bytes_eq w (codes "--plain")) refl (bytes_eq w (codes "--stats")) refl
+operand_of : (word : Text) → ((f : Flag) → bytes_eq word (flag_word f) ≡ false) → is_operand word ≡ true → (u : Use) × (word_of u ≡ word)
+operand_of [] none h = absurd (true≢false (sym h))
+operand_of (x ∷ xs) none h = go (x == 45) refl h
   where
-    go : (b : Bool) → bytes_eq w (codes "--plain") ≡ b → (c : Bool) → bytes_eq w (codes "--stats") ≡ c → (u : Use) × (word_of u ≡ w)
-    go true t c u = (plain, sym ((bytes_eq-Decides w (codes "--plain")).0 t))
-    go false t true u = (stats, sym ((bytes_eq-Decides w (codes "--stats")).0 u))
-    go false t false u = operand_of w (sym (ap₂ (λ a b. (a || b) || is_operand w) t u) ∙ h)
+    go : (b : Bool) → (x == 45) ≡ b → (not b || bytes_eq (x ∷ xs) (codes "-")) ≡ true → (u : Use) × (word_of u ≡ x ∷ xs)
+    go false e t = (operand (x ∷ xs) (name_is x xs e none), refl)
+    go true e t = (operand (codes "-") dash_is, sym ((bytes_eq-Decides (x ∷ xs) (codes "-")).0 t))
+
+use_of : (word : Text) → (is_flag word || is_operand word) ≡ true → (u : Use) × (word_of u ≡ word)
+use_of word h = elim (flag_named word) [
+  | inl (f, is) ↦ (flag f, is)
+  | inr none ↦ operand_of word none (sym (ap (λ b. b || is_operand word) (flag_not word none)) ∙ h)
+]
 
 pub uses_of : (words : List Text) → list_all (λ w. is_flag w || is_operand w) words ≡ true → (us : List Use) × (words_of us ≡ words)
 uses_of [] h = ([], refl)
-uses_of (w ∷ words) h =
-    let parts = both (is_flag w || is_operand w) _ h in
-    let first = use_of w parts.0 in
+uses_of (word ∷ words) h =
+    let parts = both (is_flag word || is_operand word) _ h in
+    let first = use_of word parts.0 in
     let more = uses_of words parts.1 in
     (first.0 ∷ more.0, λ i. first.1 i ∷ more.1 i)
+
+-- no flag stands twice
+abbrev pub AreOnce : List Text → Type 0
+AreOnce words = (f : Flag) → stands_twice (flag_word f) words ≡ false
+
+abbrev of_four : (p s k j : Bool) → Flag → Bool
+of_four p s k j plain = p
+of_four p s k j stats = s
+of_four p s k j key = k
+of_four p s k j jsonl = j
+
+none_of : (p s k j : Bool) → not (p || s || k || j) ≡ true → (f : Flag) → of_four p s k j f ≡ false
+none_of true s k j h f = absurd (true≢false (sym h))
+none_of false true k j h f = absurd (true≢false (sym h))
+none_of false false true j h f = absurd (true≢false (sym h))
+none_of false false false true h f = absurd (true≢false (sym h))
+none_of false false false false h plain = refl
+none_of false false false false h stats = refl
+none_of false false false false h key = refl
+none_of false false false false h jsonl = refl
+
+module _ (words : List Text) (h : are_once words ≡ true) where
+  each_once : (f : Flag) → of_four (stands_twice (codes "--plain") words) (stands_twice (codes "--stats") words) (stands_twice (codes "--key") words)
+      (stands_twice (codes "--jsonl") words) f ≡ false
+  each_once = none_of _ _ _ _ h
+
+  pub once_of : AreOnce words
+  once_of plain = each_once plain
+  once_of stats = each_once stats
+  once_of key = each_once key
+  once_of jsonl = each_once jsonl

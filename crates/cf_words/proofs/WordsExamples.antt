@@ -1,10 +1,15 @@
 -- Worked examples of the command that words are.
-use Rattle.std.proofs.Common.{◌≡◌, refl, true, false, [], ◌∷◌, Some, None, codes}
+use Rattle.std.proofs.Common.{◌≡◌, ℕ, List, refl, true, false, [], ◌∷◌, Some, None, codes}
 use Rattle.std.specs.Fmt.{digits}
 use Rattle.cf_words.specs.Commands.{compile, run, pre, check, exec, prove, verify, gen, help, version}
-use Rattle.cf_words.specs.Words.{command_of, may_be_read, most_size}
+use Rattle.cf_words.specs.Words.{command_of, is_flag, is_name, is_operand, may_be_read, most_size}
+use Rattle.cf_words.specs.declared.command.ReplyForm.{ReplyForm}
 
-no_flags : command_of (codes "run" ∷ codes "a" ∷ []) ≡ Some (run (record { plain = false; stats = false }) (codes "a"))
+-- nothing is asked of the replies
+abbrev plain_form : ReplyForm
+plain_form = record { key = false; jsonl = false }
+
+no_flags : command_of (codes "run" ∷ codes "a" ∷ []) ≡ Some (run (record { plain = false; stats = false }) plain_form (codes "a"))
 no_flags = refl
 
 flag_before : command_of (codes "compile" ∷ codes "--plain" ∷ codes "a" ∷ []) ≡ Some (compile (record { plain = true; stats = false }) (codes "a"))
@@ -13,7 +18,8 @@ flag_before = refl
 flag_after : command_of (codes "compile" ∷ codes "a" ∷ codes "--stats" ∷ []) ≡ Some (compile (record { plain = false; stats = true }) (codes "a"))
 flag_after = refl
 
-flags_around : command_of (codes "run" ∷ codes "--stats" ∷ codes "a" ∷ codes "--plain" ∷ []) ≡ Some (run (record { plain = true; stats = true }) (codes "a"))
+flags_around : command_of (codes "run" ∷ codes "--stats" ∷ codes "a" ∷ codes "--plain" ∷ [])
+    ≡ Some (run (record { plain = true; stats = true }) plain_form (codes "a"))
 flags_around = refl
 
 plain_twice : command_of (codes "compile" ∷ codes "a" ∷ codes "--plain" ∷ codes "--plain" ∷ []) ≡ None
@@ -43,10 +49,7 @@ flag_of_gen = refl
 two_dashes : command_of (codes "run" ∷ codes "--" ∷ codes "a" ∷ []) ≡ None
 two_dashes = refl
 
-one_dash : command_of (codes "run" ∷ codes "-" ∷ []) ≡ None
-one_dash = refl
-
-dash_in_a_name : command_of (codes "exec" ∷ codes "a-b" ∷ []) ≡ Some (exec (codes "a-b"))
+dash_in_a_name : command_of (codes "exec" ∷ codes "a-b" ∷ []) ≡ Some (exec plain_form (codes "a-b"))
 dash_in_a_name = refl
 
 no_words : command_of [] ≡ None
@@ -115,7 +118,7 @@ empty_steps_name = refl
 files_named_verify : command_of (codes "verify" ∷ codes "verify" ∷ codes "verify" ∷ []) ≡ Some (verify (codes "verify") (codes "verify"))
 files_named_verify = refl
 
-file_named_run : command_of (codes "run" ∷ codes "run" ∷ []) ≡ Some (run (record { plain = false; stats = false }) (codes "run"))
+file_named_run : command_of (codes "run" ∷ codes "run" ∷ []) ≡ Some (run (record { plain = false; stats = false }) plain_form (codes "run"))
 file_named_run = refl
 
 gen_least : command_of (codes "gen" ∷ codes "1" ∷ []) ≡ Some (gen 1)
@@ -151,6 +154,128 @@ gen_of_none = refl
 
 gen_of_two : command_of (codes "gen" ∷ codes "7" ∷ codes "8" ∷ []) ≡ None
 gen_of_two = refl
+
+-- ---- the flags of replies
+key_of_run : command_of (codes "run" ∷ codes "--key" ∷ codes "a" ∷ [])
+    ≡ Some (run (record { plain = false; stats = false }) (record { key = true; jsonl = false }) (codes "a"))
+key_of_run = refl
+
+jsonl_of_run : command_of (codes "run" ∷ codes "a" ∷ codes "--jsonl" ∷ [])
+    ≡ Some (run (record { plain = false; stats = false }) (record { key = false; jsonl = true }) (codes "a"))
+jsonl_of_run = refl
+
+jsonl_and_plain : command_of (codes "run" ∷ codes "--jsonl" ∷ codes "a" ∷ codes "--plain" ∷ [])
+    ≡ Some (run (record { plain = true; stats = false }) (record { key = false; jsonl = true }) (codes "a"))
+jsonl_and_plain = refl
+
+all_flags : command_of (codes "run" ∷ codes "--jsonl" ∷ codes "--stats" ∷ codes "a" ∷ codes "--plain" ∷ codes "--key" ∷ [])
+    ≡ Some (run (record { plain = true; stats = true }) (record { key = true; jsonl = true }) (codes "a"))
+all_flags = refl
+
+key_of_exec : command_of (codes "exec" ∷ codes "a" ∷ codes "--key" ∷ []) ≡ Some (exec (record { key = true; jsonl = false }) (codes "a"))
+key_of_exec = refl
+
+jsonl_of_exec : command_of (codes "exec" ∷ codes "--jsonl" ∷ codes "a" ∷ []) ≡ Some (exec (record { key = false; jsonl = true }) (codes "a"))
+jsonl_of_exec = refl
+
+both_of_exec : command_of (codes "exec" ∷ codes "--jsonl" ∷ codes "a" ∷ codes "--key" ∷ []) ≡ Some (exec (record { key = true; jsonl = true }) (codes "a"))
+both_of_exec = refl
+
+jsonl_and_plain_of_exec : command_of (codes "exec" ∷ codes "--jsonl" ∷ codes "--plain" ∷ codes "a" ∷ []) ≡ None
+jsonl_and_plain_of_exec = refl
+
+plain_of_exec : command_of (codes "exec" ∷ codes "a" ∷ codes "--plain" ∷ []) ≡ None
+plain_of_exec = refl
+
+key_twice : command_of (codes "run" ∷ codes "--key" ∷ codes "a" ∷ codes "--key" ∷ []) ≡ None
+key_twice = refl
+
+jsonl_twice : command_of (codes "exec" ∷ codes "--jsonl" ∷ codes "--jsonl" ∷ codes "a" ∷ []) ≡ None
+jsonl_twice = refl
+
+key_twice_unread : may_be_read (codes "run" ∷ codes "--key" ∷ codes "a" ∷ codes "--key" ∷ []) ≡ false
+key_twice_unread = refl
+
+jsonl_twice_unread : may_be_read (codes "run" ∷ codes "--jsonl" ∷ codes "a" ∷ codes "--jsonl" ∷ []) ≡ false
+jsonl_twice_unread = refl
+
+key_with_value : command_of (codes "run" ∷ codes "--key=a" ∷ codes "a" ∷ []) ≡ None
+key_with_value = refl
+
+key_alone : command_of (codes "run" ∷ codes "--key" ∷ []) ≡ None
+key_alone = refl
+
+-- the commands that take neither
+abbrev IsRefusedWith : List ℕ → List ℕ → Type 0
+IsRefusedWith command word =
+    (command_of (command ∷ word ∷ codes "1" ∷ []) ≡ None) × (command_of (command ∷ codes "1" ∷ word ∷ []) ≡ None)
+
+key_refused : IsRefusedWith (codes "compile") (codes "--key") × IsRefusedWith (codes "pre") (codes "--key") × IsRefusedWith (codes "check") (codes "--key")
+    × IsRefusedWith (codes "prove") (codes "--key") × IsRefusedWith (codes "gen") (codes "--key")
+key_refused = ((refl, refl), (refl, refl), (refl, refl), (refl, refl), (refl, refl))
+
+jsonl_refused : IsRefusedWith (codes "compile") (codes "--jsonl") × IsRefusedWith (codes "pre") (codes "--jsonl")
+    × IsRefusedWith (codes "check") (codes "--jsonl") × IsRefusedWith (codes "prove") (codes "--jsonl") × IsRefusedWith (codes "gen") (codes "--jsonl")
+jsonl_refused = ((refl, refl), (refl, refl), (refl, refl), (refl, refl), (refl, refl))
+
+stats_refused : IsRefusedWith (codes "exec") (codes "--stats") × IsRefusedWith (codes "pre") (codes "--stats") × IsRefusedWith (codes "check") (codes "--stats")
+    × IsRefusedWith (codes "prove") (codes "--stats") × IsRefusedWith (codes "gen") (codes "--stats")
+stats_refused = ((refl, refl), (refl, refl), (refl, refl), (refl, refl), (refl, refl))
+
+key_of_verify : command_of (codes "verify" ∷ codes "a" ∷ codes "b" ∷ codes "--key" ∷ []) ≡ None
+key_of_verify = refl
+
+jsonl_for_steps : command_of (codes "verify" ∷ codes "a" ∷ codes "--jsonl" ∷ []) ≡ None
+jsonl_for_steps = refl
+
+-- ---- standard input as the file
+dash_to_compile : command_of (codes "compile" ∷ codes "-" ∷ []) ≡ Some (compile (record { plain = false; stats = false }) (codes "-"))
+dash_to_compile = refl
+
+dash_among_flags : command_of (codes "compile" ∷ codes "--plain" ∷ codes "-" ∷ codes "--stats" ∷ [])
+    ≡ Some (compile (record { plain = true; stats = true }) (codes "-"))
+dash_among_flags = refl
+
+dash_to_pre : command_of (codes "pre" ∷ codes "-" ∷ []) ≡ Some (pre (codes "-"))
+dash_to_pre = refl
+
+dash_to_check : command_of (codes "check" ∷ codes "-" ∷ []) ≡ Some (check (codes "-"))
+dash_to_check = refl
+
+dash_to_prove : command_of (codes "prove" ∷ codes "-" ∷ []) ≡ Some (prove (codes "-"))
+dash_to_prove = refl
+
+dash_to_run : command_of (codes "run" ∷ codes "-" ∷ []) ≡ None
+dash_to_run = refl
+
+dash_to_run_with_key : command_of (codes "run" ∷ codes "--key" ∷ codes "-" ∷ []) ≡ None
+dash_to_run_with_key = refl
+
+dash_to_exec : command_of (codes "exec" ∷ codes "-" ∷ []) ≡ None
+dash_to_exec = refl
+
+dash_to_gen : command_of (codes "gen" ∷ codes "-" ∷ []) ≡ None
+unfolding most_size digits
+dash_to_gen = refl
+
+dash_to_verify : (command_of (codes "verify" ∷ codes "-" ∷ codes "a" ∷ []) ≡ None) × (command_of (codes "verify" ∷ codes "a" ∷ codes "-" ∷ []) ≡ None)
+    × (command_of (codes "verify" ∷ codes "-" ∷ codes "-" ∷ []) ≡ None)
+dash_to_verify = (refl, refl, refl)
+
+dash_and_a_file : command_of (codes "compile" ∷ codes "-" ∷ codes "a" ∷ []) ≡ None
+dash_and_a_file = refl
+
+dash_first : command_of (codes "-" ∷ codes "compile" ∷ []) ≡ None
+dash_first = refl
+
+dash_and_more : command_of (codes "compile" ∷ codes "-a" ∷ []) ≡ None
+dash_and_more = refl
+
+dash_may_be_read : may_be_read (codes "run" ∷ codes "-" ∷ []) ≡ true
+dash_may_be_read = refl
+
+dash_is_no_name : (is_operand (codes "-") ≡ true) × (is_name (codes "-") ≡ false) × (is_flag (codes "-") ≡ false)
+dash_is_no_name = (refl, refl, refl)
 
 -- ---- words about the program
 help_is_told : command_of (codes "--help" ∷ []) ≡ Some help

@@ -4,32 +4,37 @@ use Rattle.cf_words.specs.declared.command.Command as declared
 use Rattle.cf_words.specs.declared.command.Command.TheVariants.{OnFile, Verify, Gen, Help, Version}
 use Rattle.cf_words.specs.declared.command.CommandKind.{CommandKind}
 use Rattle.cf_words.specs.declared.command.CommandKind.TheVariants.{Compile, Run, Pre, Check, Exec, Prove}
+use Rattle.cf_words.specs.declared.command.FileCommand.{FileCommand}
 use Rattle.cf_words.specs.declared.command.Flags.{Flags}
+use Rattle.cf_words.specs.declared.command.ReplyForm.{ReplyForm}
 
 pub data Command : Type 0 where
   compile : Flags → List ℕ → Command
-  run : Flags → List ℕ → Command
+  run : Flags → ReplyForm → List ℕ → Command
   pre : List ℕ → Command
   check : List ℕ → Command
-  exec : List ℕ → Command
+  exec : ReplyForm → List ℕ → Command
   prove : List ℕ → Command
   verify : List ℕ → List ℕ → Command
   gen : ℕ → Command
   help : Command
   version : Command
 
--- the command of a kind with these flags on a file
-abbrev pub command_on : CommandKind → Flags → List ℕ → Command
-command_on Compile flags file = compile flags file
-command_on Run flags file = run flags file
-command_on Pre flags file = pre file
-command_on Check flags file = check file
-command_on Exec flags file = exec file
-command_on Prove flags file = prove file
+-- the command of a kind on a file, with what is asked of the passes and of the replies where the kind has these
+abbrev pub command_on : CommandKind → Flags → ReplyForm → List ℕ → Command
+command_on Compile flags form file = compile flags file
+command_on Run flags form file = run flags form file
+command_on Pre flags form file = pre file
+command_on Check flags form file = check file
+command_on Exec flags form file = exec form file
+command_on Prove flags form file = prove file
+
+abbrev pub file_command : FileCommand → Command
+file_command c = command_on c.kind c.flags c.form c.file.now
 
 -- a command of the program, without where its words lie in memory
 abbrev pub plain_command : declared.Command → Command
-plain_command (OnFile c) = command_on c.kind c.flags c.file.now
+plain_command (OnFile c) = file_command c
 plain_command (Verify file steps) = verify file.now steps.now
 plain_command (Gen n) = gen n
 plain_command Help = help

@@ -1,12 +1,13 @@
 -- What clap is told of the words, and what is made of its answer.
-use Rattle.std.specs.Prelude.{◌≡◌, ⊤, Result, Ok, Err, List, [], ◌∷◌, Bool, true, false, Option, Some, None, option_map, option_and_then, if◌then◌else◌, codes, bytes_eq}
+use Rattle.std.specs.Prelude.{◌≡◌, ⊤, Result, Ok, Err, List, [], ◌∷◌, Bool, true, false, Option, Some, None, option_and_then, if◌then◌else◌, codes, bytes_eq}
 use Rattle.std.specs.Option.{option_map_or}
 use Rattle.clap.specs.Words.{App, Kinds, Row, Rule, Text, fault_of, first_of, new_app, new_rule, subcommand_of, subcommand_rows_of, with_rule, with_subcommand}
 use Rattle.clap.specs.declared.builder.action.ArgAction.TheVariants.{SetTrue}
-use Rattle.cf_words.specs.Commands.{Command, verify}
-use Rattle.cf_words.specs.Words.{command_for}
+use Rattle.cf_words.specs.Commands.{Command}
+use Rattle.cf_words.specs.Words.{command_for, verify_for}
 use Rattle.clap.specs.declared.parser.matches.ArgMatches.{ArgMatches}
 use Rattle.cf_words.specs.declared.command.Flags.{Flags}
+use Rattle.cf_words.specs.declared.command.ReplyForm.{ReplyForm}
 use Rattle.cf_words.specs.declared.fault.WordsFault.{WordsFault}
 use Rattle.cf_words.specs.declared.fault.WordsFault.TheVariants.{Usage, NoMemory}
 
@@ -16,13 +17,11 @@ flag id = record (new_rule id) { long = Some id; action = Some SetTrue }
 abbrev pub operand : Text → Rule
 operand id = record (new_rule id) { required = true }
 
--- a subcommand with an operand alone, one with both flags too, and one with two operands
-abbrev pub bare_subcommand : Text → App
-bare_subcommand name = with_rule (new_app name) (operand (codes "operand"))
-
+-- a subcommand with the four flags and an operand, and one with two operands; which command takes which flag is told by `command_for`
 abbrev pub flagged_subcommand : Text → App
 flagged_subcommand name =
-    with_rule (with_rule (with_rule (new_app name) (flag (codes "plain"))) (flag (codes "stats"))) (operand (codes "operand"))
+    with_rule (with_rule (with_rule (with_rule (with_rule (new_app name)
+    (flag (codes "plain"))) (flag (codes "stats"))) (flag (codes "key"))) (flag (codes "jsonl"))) (operand (codes "operand"))
 
 abbrev pub paired_subcommand : Text → App
 paired_subcommand name = with_rule (with_rule (new_app name) (operand (codes "file"))) (operand (codes "steps"))
@@ -37,9 +36,9 @@ abbrev pub grammar : App
 grammar =
     with_subcommand (with_subcommand (with_subcommand (with_subcommand (with_subcommand (with_subcommand (with_subcommand (with_subcommand program
     (flagged_subcommand (codes "compile")).top) (flagged_subcommand (codes "run")).top)
-    (bare_subcommand (codes "pre")).top) (bare_subcommand (codes "check")).top)
-    (bare_subcommand (codes "exec")).top) (bare_subcommand (codes "prove")).top)
-    (paired_subcommand (codes "verify")).top) (bare_subcommand (codes "gen")).top
+    (flagged_subcommand (codes "pre")).top) (flagged_subcommand (codes "check")).top)
+    (flagged_subcommand (codes "exec")).top) (flagged_subcommand (codes "prove")).top)
+    (paired_subcommand (codes "verify")).top) (flagged_subcommand (codes "gen")).top
 
 -- whether a flag was found
 abbrev pub is_set : Text → List Row → Bool
@@ -48,16 +47,20 @@ is_set id rows = option_map_or (λ text. bytes_eq text (codes "true")) (first_of
 abbrev pub flags_found : List Row → Flags
 flags_found rows = record { plain = is_set (codes "plain") rows; stats = is_set (codes "stats") rows }
 
+abbrev pub form_found : List Row → ReplyForm
+form_found rows = record { key = is_set (codes "key") rows; jsonl = is_set (codes "jsonl") rows }
+
 -- the command `verify` on the two operands that were found
 abbrev pub verify_found : List Row → Option Command
-verify_found rows = option_and_then (λ file. option_map (verify file) (first_of (codes "steps") rows)) (first_of (codes "file") rows)
+verify_found rows =
+    option_and_then (λ file. option_and_then (λ steps. verify_for (file ∷ steps ∷ [])) (first_of (codes "steps") rows)) (first_of (codes "file") rows)
 
 -- the command of a subcommand with what was found for it
 abbrev pub command_found : Option (Text × List Row) → Option Command
 command_found None = None
 command_found (Some found) =
     if bytes_eq found.0 (codes "verify") then verify_found found.1
-    else option_and_then (command_for found.0 (flags_found found.1)) (first_of (codes "operand") found.1)
+    else option_and_then (command_for found.0 (flags_found found.1) (form_found found.1)) (first_of (codes "operand") found.1)
 
 -- the answer, where no kind of error comes
 abbrev pub found_unless : {X : Type 0} → Kinds → Option X → Option X

@@ -1,4 +1,3 @@
-pub mod Asked
 pub mod Commands
 pub mod Words
 pub mod Grammar

@@ -4,17 +4,22 @@ use Rattle.std.specs.List.{list_all, list_any, range_with_len}
 use Rattle.cf_words.specs.Commands.{Command, compile, run, pre, check, exec, prove, verify, gen, help, version, plain_command}
 use Rattle.cf_words.specs.declared.command.Command as declared
 use Rattle.cf_words.specs.declared.command.Flags.{Flags}
+use Rattle.cf_words.specs.declared.command.ReplyForm.{ReplyForm}
 use Rattle.cf_words.specs.declared.fault.WordsFault.{WordsFault}
 use Rattle.cf_words.specs.declared.fault.WordsFault.TheVariants.{Usage, NoMemory}
 
--- one of the two flags
+-- one of the four flags
 abbrev pub is_flag : List ℕ → Bool
-is_flag word = bytes_eq word (codes "--plain") || bytes_eq word (codes "--stats")
+is_flag word = bytes_eq word (codes "--plain") || bytes_eq word (codes "--stats") || bytes_eq word (codes "--key") || bytes_eq word (codes "--jsonl")
 
 -- a word that is not empty and does not begin with a dash
+abbrev pub is_name : List ℕ → Bool
+is_name [] = false
+is_name (first ∷ more) = not (first == 45)
+
+-- a name, or the dash that stands for standard input
 abbrev pub is_operand : List ℕ → Bool
-is_operand [] = false
-is_operand (first ∷ more) = not (first == 45)
+is_operand word = is_name word || bytes_eq word (codes "-")
 
 -- a word stands among words, and stands there twice
 abbrev pub stands : List ℕ → List (List ℕ) → Bool
@@ -24,10 +29,15 @@ abbrev pub stands_twice : List ℕ → List (List ℕ) → Bool
 stands_twice word [] = false
 stands_twice word (first ∷ words) = if bytes_eq first word then stands word words else stands_twice word words
 
--- each word is an operand or one of the two flags, and no flag stands twice
+-- no flag stands twice
+abbrev pub are_once : List (List ℕ) → Bool
+are_once words =
+    not (stands_twice (codes "--plain") words || stands_twice (codes "--stats") words || stands_twice (codes "--key") words
+    || stands_twice (codes "--jsonl") words)
+
+-- each word is an operand or one of the four flags, and no flag stands twice
 abbrev pub may_be_parsed : List (List ℕ) → Bool
-may_be_parsed words =
-    list_all (λ w. is_flag w || is_operand w) words && (not (stands_twice (codes "--plain") words) && not (stands_twice (codes "--stats") words))
+may_be_parsed words = list_all (λ w. is_flag w || is_operand w) words && are_once words
 
 -- what a single word asks about the program
 abbrev pub about_word : List ℕ → Option Command
@@ -49,22 +59,45 @@ most_size = 100
 abbrev pub size_of : List ℕ → Option ℕ
 size_of word = find (λ n. bytes_eq word (decimal n)) (range_with_len 1 most_size)
 
--- the command of a first word, with these flags and this operand
-abbrev pub command_for : List ℕ → Flags → List ℕ → Option Command
-command_for first flags operand =
+-- something is asked of the passes, and of the replies
+abbrev pub asks_passes : Flags → Bool
+asks_passes flags = flags.plain || flags.stats
+
+abbrev pub asks_replies : ReplyForm → Bool
+asks_replies form = form.key || form.jsonl
+
+-- the command of a first word that reads no input, with these flags and this operand
+abbrev pub command_without_input : List ℕ → Flags → List ℕ → Option Command
+command_without_input first flags operand =
     if bytes_eq first (codes "compile") then Some (compile flags operand)
-    else if bytes_eq first (codes "run") then Some (run flags operand)
-    else if flags.plain || flags.stats then None
+    else if asks_passes flags then None
     else if bytes_eq first (codes "pre") then Some (pre operand)
     else if bytes_eq first (codes "check") then Some (check operand)
-    else if bytes_eq first (codes "exec") then Some (exec operand)
     else if bytes_eq first (codes "prove") then Some (prove operand)
     else if bytes_eq first (codes "gen") then option_map gen (size_of operand)
     else None
 
--- the flags that stand among words
+-- `run` and `exec` read the input, so they take no file from there; `exec` calls no pass
+abbrev pub run_for : Flags → ReplyForm → List ℕ → Option Command
+run_for flags form file = if is_name file then Some (run flags form file) else None
+
+abbrev pub exec_for : Flags → ReplyForm → List ℕ → Option Command
+exec_for flags form file = if is_name file && not (asks_passes flags) then Some (exec form file) else None
+
+-- the command of a first word, with these flags and this operand: only `run` and `exec` reply
+abbrev pub command_for : List ℕ → Flags → ReplyForm → List ℕ → Option Command
+command_for first flags form operand =
+    if bytes_eq first (codes "run") then run_for flags form operand
+    else if bytes_eq first (codes "exec") then exec_for flags form operand
+    else if asks_replies form then None
+    else command_without_input first flags operand
+
+-- what the flags that stand among words ask
 abbrev pub flags_in : List (List ℕ) → Flags
 flags_in words = record { plain = stands (codes "--plain") words; stats = stands (codes "--stats") words }
+
+abbrev pub form_in : List (List ℕ) → ReplyForm
+form_in words = record { key = stands (codes "--key") words; jsonl = stands (codes "--jsonl") words }
 
 -- the words that are no flags
 abbrev pub operands : List (List ℕ) → List (List ℕ)
@@ -75,17 +108,17 @@ abbrev pub only : List (List ℕ) → Option (List ℕ)
 only (operand ∷ []) = Some operand
 only operands = None
 
--- the command `verify`, which takes two operands and no flag
-abbrev pub verify_for : Flags → List (List ℕ) → Option Command
-verify_for flags (file ∷ steps ∷ []) = if flags.plain || flags.stats then None else Some (verify file steps)
-verify_for flags operands = None
+-- the command `verify`, which takes two names and no flag
+abbrev pub verify_for : List (List ℕ) → Option Command
+verify_for (file ∷ steps ∷ []) = if is_name file && is_name steps then Some (verify file steps) else None
+verify_for words = None
 
--- behind the first word stand flags and one operand, or two behind `verify`
+-- behind the first word stand flags and one operand, or two names behind `verify`
 abbrev pub command_in : List (List ℕ) → Option Command
 command_in [] = None
 command_in (first ∷ words) =
-    if bytes_eq first (codes "verify") then verify_for (flags_in words) (operands words)
-    else option_and_then (command_for first (flags_in words)) (only (operands words))
+    if bytes_eq first (codes "verify") then verify_for words
+    else option_and_then (command_for first (flags_in words) (form_in words)) (only (operands words))
 
 -- the command that words are which say nothing about the program
 abbrev pub command_parsed : List (List ℕ) → Option Command

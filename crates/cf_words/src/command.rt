@@ -28,11 +28,22 @@ pub struct Flags {
     pub stats: bool,
 }
 
-/// A command on a file: its kind, its flags and the name of the file.
+/// How the reply to a line is written.
+#[derive(Clone, Copy, Debug, PartialEq, Eq)]
+pub struct ReplyForm {
+    /// With the key of the line.
+    pub key: bool,
+    /// As JSON.
+    pub jsonl: bool,
+}
+
+/// A command on a file: its kind, what is asked of the passes and of the replies, and the name of the
+/// file. The name `-` is that of standard input.
 #[derive(Clone, Copy, Debug)]
 pub struct FileCommand<'a> {
     pub kind: CommandKind,
     pub flags: Flags,
+    pub form: ReplyForm,
     pub file: &'a str,
 }
 
@@ -47,6 +58,6 @@ pub enum Command<'a> {
     Gen(u32),
     /// How the program is called is written.
     Help,
-    /// The version of the language that the program takes is written.
+    /// The version of the program, and the editions of the language that it takes, are written.
     Version,
 }

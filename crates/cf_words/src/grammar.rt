@@ -2,7 +2,7 @@
 ghost use Rattle.std.specs.Prelude.{◌≡◌, IfOk, false, codes};
 ghost use Rattle.clap.specs.declared.builder.command.Command.TheViews.{out-Command};
 ghost use Rattle.clap.specs.Words.{app_of, rule_of, with_rule as adds_rule, with_subcommand as adds_subcommand};
-ghost use Rattle.cf_words.specs.Grammar.{bare_subcommand, flag as the_flag, flagged_subcommand, grammar as the_grammar, operand as the_operand, paired_subcommand, program as the_program};
+ghost use Rattle.cf_words.specs.Grammar.{flag as the_flag, flagged_subcommand, grammar as the_grammar, operand as the_operand, paired_subcommand, program as the_program};
 
 use cf_tree::without;
 use clap::{Arg, ArgAction, Command};
@@ -13,14 +13,14 @@ pub(crate) fn grammar<'a>(alloc: Global) -> Result<Command<'a>, AllocError>
     ensures { IfOk result (λ c. app_of c ≡ the_grammar) }
 {
     let running = with_compiling(alloc, program(alloc))?;
-    let telling = without_flags(alloc, running, "pre")?;
-    let checking = without_flags(alloc, telling, "check")?;
-    let executing = without_flags(alloc, checking, "exec")?;
+    let telling = with_flags(alloc, running, "pre")?;
+    let checking = with_flags(alloc, telling, "check")?;
+    let executing = with_flags(alloc, checking, "exec")?;
     let verifying = with_certificates(alloc, executing)?;
-    without_flags(alloc, verifying, "gen")
+    with_flags(alloc, verifying, "gen")
 }
 
-// The program with `compile` and `run`, which take flags.
+// The program with `compile` and `run`.
 fn with_compiling<'a>(alloc: Global, program: Command<'a>) -> Result<Command<'a>, AllocError>
     ensures { IfOk result (λ c. app_of c ≡ adds_subcommand (adds_subcommand (app_of program.entry) (flagged_subcommand (codes "compile")).top)
         (flagged_subcommand (codes "run")).top) }
@@ -31,10 +31,10 @@ fn with_compiling<'a>(alloc: Global, program: Command<'a>) -> Result<Command<'a>
 
 // The program with `prove` and `verify`.
 fn with_certificates<'a>(alloc: Global, program: Command<'a>) -> Result<Command<'a>, AllocError>
-    ensures { IfOk result (λ c. app_of c ≡ adds_subcommand (adds_subcommand (app_of program.entry) (bare_subcommand (codes "prove")).top)
+    ensures { IfOk result (λ c. app_of c ≡ adds_subcommand (adds_subcommand (app_of program.entry) (flagged_subcommand (codes "prove")).top)
         (paired_subcommand (codes "verify")).top) }
 {
-    let proving = without_flags(alloc, program, "prove")?;
+    let proving = with_flags(alloc, program, "prove")?;
     with_pair(alloc, proving, "verify")
 }
 
@@ -48,7 +48,7 @@ fn program<'a>(alloc: Global) -> Command<'a>
         .subcommand_required(true)
 }
 
-// The program with one more subcommand, which takes both flags.
+// The program with one more subcommand, which takes the four flags and an operand.
 fn with_flags<'a>(
     alloc: Global,
     program: Command<'a>,
@@ -57,20 +57,6 @@ fn with_flags<'a>(
     ensures { IfOk result (λ c. app_of c ≡ adds_subcommand (app_of program.entry) (flagged_subcommand name.entry.now).top) }
 {
     match flagged(alloc, name) {
-        Ok(subcommand) => program.subcommand(subcommand),
-        Err(fault) => Err(without(program, fault)),
-    }
-}
-
-// The program with one more subcommand, which takes no flag.
-fn without_flags<'a>(
-    alloc: Global,
-    program: Command<'a>,
-    name: &'a str,
-) -> Result<Command<'a>, AllocError>
-    ensures { IfOk result (λ c. app_of c ≡ adds_subcommand (app_of program.entry) (bare_subcommand name.entry.now).top) }
-{
-    match bare(alloc, name) {
         Ok(subcommand) => program.subcommand(subcommand),
         Err(fault) => Err(without(program, fault)),
     }
@@ -94,14 +80,10 @@ fn flagged<'a>(alloc: Global, name: &'a str) -> Result<Command<'a>, AllocError>
     ensures { IfOk result (λ c. (app_of c ≡ flagged_subcommand name.entry.now) × ((out-Command c).has_globals ≡ false)) }
 {
     let plain = with_flag(alloc, Command::new(alloc, name), "plain")?;
-    let both = with_flag(alloc, plain, "stats")?;
-    with_operand(alloc, both, "operand")
-}
-
-fn bare<'a>(alloc: Global, name: &'a str) -> Result<Command<'a>, AllocError>
-    ensures { IfOk result (λ c. (app_of c ≡ bare_subcommand name.entry.now) × ((out-Command c).has_globals ≡ false)) }
-{
-    with_operand(alloc, Command::new(alloc, name), "operand")
+    let passes = with_flag(alloc, plain, "stats")?;
+    let key = with_flag(alloc, passes, "key")?;
+    let all = with_flag(alloc, key, "jsonl")?;
+    with_operand(alloc, all, "operand")
 }
 
 fn paired<'a>(alloc: Global, name: &'a str) -> Result<Command<'a>, AllocError>

@@ -1,14 +1,15 @@
 //! What `clap` finds in words.
-ghost use Rattle.std.specs.Prelude.{◌≡◌, map, string_bytes, Some, IfSome, option_map};
+ghost use Rattle.std.specs.Prelude.{◌≡◌, ◌∷◌, [], false, map, string_bytes, Some, IfSome, option_map};
 ghost use Rattle.clap.specs.Words.{found_of, rows_of, subcommand_rows_of};
 ghost use Rattle.cf_words.specs.Commands.{HasSize, plain_command};
-ghost use Rattle.cf_words.specs.Grammar.{MatchesAnswer, clap_command, command_found as the_command_found, flags_found as the_flags_found, is_set as the_is_set, verify_found as the_verify_found};
-ghost use Rattle.cf_words.specs.Words.{command_for as the_command_for};
+ghost use Rattle.cf_words.specs.Grammar.{MatchesAnswer, clap_command, command_found as the_command_found, flags_found as the_flags_found, form_found as the_form_found, is_set as the_is_set, verify_found as the_verify_found};
+ghost use Rattle.cf_words.specs.Words.{command_for as the_command_for, command_without_input as the_command_without_input, exec_for as the_exec_for, run_for as the_run_for, verify_for as the_verify_for};
 
-use crate::command::{Command, CommandKind, FileCommand, Flags};
+use crate::command::{Command, CommandKind, FileCommand, Flags, ReplyForm};
 use crate::fault::{WordsFault, fault_of};
 use crate::grammar::grammar;
 use crate::size::size_of;
+use crate::word::is_name;
 use clap::ArgMatches;
 use std::alloc::Global;
 
@@ -48,7 +49,7 @@ fn command_behind<'a>(name: &str, found: &ArgMatches<'a>) -> Option<Command<'a>>
         return verify_found(found);
     }
     let operand = found.get_str("operand")?;
-    command_for(name, flags_found(found), operand)
+    command_for(name, flags_found(found), form_found(found), operand)
 }
 
 // The command `verify` on the two operands that were found.
@@ -58,7 +59,19 @@ fn verify_found<'a>(found: &ArgMatches<'a>) -> Option<Command<'a>>
 {
     let file = found.get_str("file")?;
     let steps = found.get_str("steps")?;
-    Some(Command::Verify { file, steps })
+    verify_for(file, steps)
+}
+
+// The command `verify`, where both operands are names.
+fn verify_for<'a>(file: &'a str, steps: &'a str) -> Option<Command<'a>>
+    ensures command { option_map plain_command result ≡ the_verify_for (file.now ∷ steps.now ∷ []) }
+    ensures size { IfSome result HasSize }
+{
+    if is_name(file.as_bytes()) && is_name(steps.as_bytes()) {
+        Some(Command::Verify { file, steps })
+    } else {
+        None
+    }
 }
 
 fn flags_found(found: &ArgMatches<'_>) -> Flags
@@ -67,6 +80,15 @@ fn flags_found(found: &ArgMatches<'_>) -> Flags
     Flags {
         plain: is_set(found, "plain"),
         stats: is_set(found, "stats"),
+    }
+}
+
+fn form_found(found: &ArgMatches<'_>) -> ReplyForm
+    ensures { result ≡ the_form_found (rows_of (found_of found.now)) }
+{
+    ReplyForm {
+        key: is_set(found, "key"),
+        jsonl: is_set(found, "jsonl"),
     }
 }
 
@@ -80,24 +102,65 @@ fn is_set(found: &ArgMatches<'_>, flag: &str) -> bool
 }
 
 // The command of a first word, with these flags and this operand.
-fn command_for<'a>(first: &str, flags: Flags, operand: &'a str) -> Option<Command<'a>>
-    ensures command { option_map plain_command result ≡ the_command_for first.now flags operand.now }
+fn command_for<'a>(
+    first: &str,
+    flags: Flags,
+    form: ReplyForm,
+    operand: &'a str,
+) -> Option<Command<'a>>
+    ensures command { option_map plain_command result ≡ the_command_for first.now flags form operand.now }
+    ensures size { IfSome result HasSize }
+{
+    if first == "run" {
+        run_for(flags, form, operand)
+    } else if first == "exec" {
+        exec_for(flags, form, operand)
+    } else if form.key || form.jsonl {
+        None
+    } else {
+        command_without_input(first, flags, operand)
+    }
+}
+
+// The command `run`, where the operand is a name.
+fn run_for<'a>(flags: Flags, form: ReplyForm, operand: &'a str) -> Option<Command<'a>>
+    ensures command { option_map plain_command result ≡ the_run_for flags form operand.now }
+    ensures size { IfSome result HasSize }
+{
+    if is_name(operand.as_bytes()) {
+        Some(on_file(CommandKind::Run, flags, form, operand))
+    } else {
+        None
+    }
+}
+
+// The command `exec`, where the operand is a name and nothing is asked of the passes.
+fn exec_for<'a>(flags: Flags, form: ReplyForm, operand: &'a str) -> Option<Command<'a>>
+    ensures command { option_map plain_command result ≡ the_exec_for flags form operand.now }
+    ensures size { IfSome result HasSize }
+{
+    if is_name(operand.as_bytes()) && !(flags.plain || flags.stats) {
+        Some(on_file(CommandKind::Exec, flags, form, operand))
+    } else {
+        None
+    }
+}
+
+// The command of a first word that reads no input.
+fn command_without_input<'a>(first: &str, flags: Flags, operand: &'a str) -> Option<Command<'a>>
+    ensures command { option_map plain_command result ≡ the_command_without_input first.now flags operand.now }
     ensures size { IfSome result HasSize }
 {
     if first == "compile" {
-        Some(on_file(CommandKind::Compile, flags, operand))
-    } else if first == "run" {
-        Some(on_file(CommandKind::Run, flags, operand))
+        Some(silent(CommandKind::Compile, flags, operand))
     } else if flags.plain || flags.stats {
         None
     } else if first == "pre" {
-        Some(on_file(CommandKind::Pre, flags, operand))
+        Some(silent(CommandKind::Pre, flags, operand))
     } else if first == "check" {
-        Some(on_file(CommandKind::Check, flags, operand))
-    } else if first == "exec" {
-        Some(on_file(CommandKind::Exec, flags, operand))
+        Some(silent(CommandKind::Check, flags, operand))
     } else if first == "prove" {
-        Some(on_file(CommandKind::Prove, flags, operand))
+        Some(silent(CommandKind::Prove, flags, operand))
     } else if first == "gen" {
         Some(Command::Gen(size_of(operand)?))
     } else {
@@ -105,8 +168,24 @@ fn command_for<'a>(first: &str, flags: Flags, operand: &'a str) -> Option<Comman
     }
 }
 
-fn on_file<'a>(kind: CommandKind, flags: Flags, file: &'a str) -> Command<'a>
-    ensures { result ≡ Command.OnFile (record { kind = kind; flags = flags; file = file.entry }) }
+// A command that replies to nothing.
+fn silent<'a>(kind: CommandKind, flags: Flags, file: &'a str) -> Command<'a>
+    ensures { result ≡ Command.OnFile (record { kind = kind; flags = flags; form = record { key = false; jsonl = false }; file = file.entry }) }
 {
-    Command::OnFile(FileCommand { kind, flags, file })
+    let form = ReplyForm {
+        key: false,
+        jsonl: false,
+    };
+    on_file(kind, flags, form, file)
+}
+
+fn on_file<'a>(kind: CommandKind, flags: Flags, form: ReplyForm, file: &'a str) -> Command<'a>
+    ensures { result ≡ Command.OnFile (record { kind = kind; flags = flags; form = form; file = file.entry }) }
+{
+    Command::OnFile(FileCommand {
+        kind,
+        flags,
+        form,
+        file,
+    })
 }

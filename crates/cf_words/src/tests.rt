@@ -1,15 +1,25 @@
 //! The tests of words before they are parsed.
 ghost use Rattle.std.specs.Prelude.{◌≡◌, ◌||◌, map, string_bytes};
 ghost use Rattle.std.specs.List.{list_all};
-ghost use Rattle.cf_words.specs.Words.{is_flag, is_operand, may_be_parsed as may_be_parsed_as, stands as stands_in, stands_twice as stands_twice_in};
+ghost use Rattle.cf_words.specs.Words.{are_once as are_once_in, is_flag, is_operand, may_be_parsed as may_be_parsed_as, stands as stands_in, stands_twice as stands_twice_in};
 
 use crate::word::may_stand;
 
-/// Each word is an operand or one of the two flags, and no flag stands twice.
+/// Each word is an operand or one of the four flags, and no flag stands twice.
 pub(crate) fn may_be_parsed(words: &[String]) -> bool
     ensures { result ≡ may_be_parsed_as (map string_bytes words.now) }
 {
-    each_may_stand(words) && !stands_twice(words, "--plain") && !stands_twice(words, "--stats")
+    each_may_stand(words) && are_once(words)
+}
+
+// No flag stands twice.
+fn are_once(words: &[String]) -> bool
+    ensures { result ≡ are_once_in (map string_bytes words.now) }
+{
+    !(stands_twice(words, "--plain")
+        || stands_twice(words, "--stats")
+        || stands_twice(words, "--key")
+        || stands_twice(words, "--jsonl"))
 }
 
 fn each_may_stand(words: &[String]) -> bool

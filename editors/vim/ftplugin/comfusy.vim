@@ -1,2 +1,5 @@
 setlocal commentstring=#\ %s
 setlocal expandtab shiftwidth=2
+if expand("%:e") !=# "steps"
+  compiler comfusy
+endif

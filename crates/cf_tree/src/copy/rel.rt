@@ -1,41 +1,45 @@
 //! Copies of relations and of their parts.
 ghost use Rattle.std.specs.Prelude.{◌≡◌, IfOk};
+ghost use Rattle.cf_tree.specs.OverTerms.{set_over_two, SetHasTwoParts, term_over_one, TermHasOnePart, term_over_two, TermHasTwoParts};
+ghost use Rattle.cf_tree.specs.OverTerms.{rel_over_sets, RelHasSets, rel_over_two, RelHasTwoParts};
+ghost use Rattle.cf_tree.specs.RelTree.{set_var, term_var};
 ghost use Rattle.cf_tree.specs.RelView.{set_tree, term_tree, rel_tree};
-ghost use Rattle.cf_tree.specs.SameParts.{IsSetOverTwo, IsTermOverOne, IsTermOverTwo, IsRelOverSets, IsRelOverTwo};
 
+use crate::leaves::Leaves;
 use crate::memory::NoMemory;
 use crate::rel::{Rel, SetTerm, Term};
-use crate::term_over_one;
 use std::alloc::Global;
+
+// Variables that stay as they are.
+struct Same;
+
+impl Leaves for Same {
+    ghost becomes_term = { λ _ x. term_var x };
+
+    ghost becomes_set = { λ _ x. set_var x };
+
+    fn term(&self, level: u32) -> Result<Term, NoMemory> {
+        Ok(Term::Var(level))
+    }
+
+    fn set(&self, level: u32) -> Result<SetTerm, NoMemory> {
+        Ok(SetTerm::Var(level))
+    }
+}
 
 impl SetTerm {
     /// An equal tree.
-    #[cycle(copy_set)]
+    #[tactic(auto, using(crate::proofs::LeavesLaws::set_itself))]
     pub fn try_copy(&self, alloc: Global) -> Result<SetTerm, NoMemory>
         ensures { IfOk result (λ new. set_tree new ≡ set_tree self.now) }
     {
-        match self {
-            SetTerm::Empty => Ok(SetTerm::Empty),
-            SetTerm::Var(x) => Ok(SetTerm::Var(*x)),
-            SetTerm::Union(a, b) | SetTerm::Inter(a, b) | SetTerm::Diff(a, b) => {
-                let first = a.boxed(alloc)?;
-                let second = b.boxed(alloc)?;
-                Ok(self.over_two(first, second))
-            }
-        }
+        self.rebuilt(alloc, &Same)
     }
 
-    #[cycle(copy_set)]
-    pub(crate) fn boxed(&self, alloc: Global) -> Result<Box<SetTerm>, NoMemory>
-        ensures { IfOk result (λ new. set_tree new.value ≡ set_tree self.now) }
-    {
-        Ok(Box::new(alloc, self.try_copy(alloc)?)?)
-    }
-
-    // The same form over two parts equal to its own.
-    fn over_two(&self, a: Box<SetTerm>, b: Box<SetTerm>) -> SetTerm
-        requires { IsSetOverTwo (set_tree self.now) (set_tree a.value) (set_tree b.value) }
-        ensures { set_tree result ≡ set_tree self.now }
+    /// The same form over two other parts.
+    pub fn over_two(&self, a: Box<SetTerm>, b: Box<SetTerm>) -> SetTerm
+        requires { SetHasTwoParts (set_tree self.now) }
+        ensures { set_tree result ≡ set_over_two (set_tree self.now) (set_tree a.value) (set_tree b.value) }
     {
         match self {
             SetTerm::Union(_, _) => SetTerm::Union(a, b),
@@ -48,37 +52,17 @@ impl SetTerm {
 
 impl Term {
     /// An equal tree.
-    #[cycle(copy_term)]
+    #[tactic(auto, using(crate::proofs::LeavesLaws::term_itself))]
     pub fn try_copy(&self, alloc: Global) -> Result<Term, NoMemory>
         ensures { IfOk result (λ new. term_tree new ≡ term_tree self.now) }
     {
-        match self {
-            Term::Lit(x) => Ok(Term::Lit(*x)),
-            Term::Var(x) => Ok(Term::Var(*x)),
-            Term::Card(a) => Ok(Term::Card(a.boxed(alloc)?)),
-            term_over_one!(a) => {
-                let part = a.boxed(alloc)?;
-                Ok(self.over_one(part))
-            }
-            Term::Add(a, b) | Term::Sub(a, b) | Term::Mul(a, b) => {
-                let first = a.boxed(alloc)?;
-                let second = b.boxed(alloc)?;
-                Ok(self.over_two(first, second))
-            }
-        }
+        self.rebuilt(alloc, &Same)
     }
 
-    #[cycle(copy_term)]
-    pub(crate) fn boxed(&self, alloc: Global) -> Result<Box<Term>, NoMemory>
-        ensures { IfOk result (λ new. term_tree new.value ≡ term_tree self.now) }
-    {
-        Ok(Box::new(alloc, self.try_copy(alloc)?)?)
-    }
-
-    // The same form over a part equal to its own.
-    fn over_one(&self, a: Box<Term>) -> Term
-        requires { IsTermOverOne (term_tree self.now) (term_tree a.value) }
-        ensures { term_tree result ≡ term_tree self.now }
+    /// The same form over another part.
+    pub fn over_one(&self, a: Box<Term>) -> Term
+        requires { TermHasOnePart (term_tree self.now) }
+        ensures { term_tree result ≡ term_over_one (term_tree self.now) (term_tree a.value) }
     {
         match self {
             Term::Neg(_) => Term::Neg(a),
@@ -89,10 +73,10 @@ impl Term {
         }
     }
 
-    // The same form over two parts equal to its own.
-    fn over_two(&self, a: Box<Term>, b: Box<Term>) -> Term
-        requires { IsTermOverTwo (term_tree self.now) (term_tree a.value) (term_tree b.value) }
-        ensures { term_tree result ≡ term_tree self.now }
+    /// The same form over two other parts.
+    pub fn over_two(&self, a: Box<Term>, b: Box<Term>) -> Term
+        requires { TermHasTwoParts (term_tree self.now) }
+        ensures { term_tree result ≡ term_over_two (term_tree self.now) (term_tree a.value) (term_tree b.value) }
     {
         match self {
             Term::Add(_, _) => Term::Add(a, b),
@@ -105,51 +89,23 @@ impl Term {
 
 impl Rel {
     /// An equal tree.
-    #[cycle(copy_rel)]
+    #[tactic(auto, using(crate::proofs::LeavesLaws::rel_itself))]
     pub fn try_copy(&self, alloc: Global) -> Result<Rel, NoMemory>
         ensures { IfOk result (λ new. rel_tree new ≡ rel_tree self.now) }
     {
-        match self {
-            Rel::True => Ok(Rel::True),
-            Rel::False => Ok(Rel::False),
-            Rel::Compare { order, left, right } => {
-                let left = left.boxed(alloc)?;
-                let right = right.boxed(alloc)?;
-                let order = *order;
-                Ok(Rel::Compare { order, left, right })
-            }
-            Rel::SameSet(a, b) | Rel::OtherSet(a, b) | Rel::Subset(a, b) => {
-                let first = a.boxed(alloc)?;
-                let second = b.boxed(alloc)?;
-                Ok(self.over_sets(first, second))
-            }
-            Rel::Divides { k, of } => {
-                let of = of.boxed(alloc)?;
-                Ok(Rel::Divides { k: *k, of })
-            }
-            Rel::And(a, b) | Rel::Or(a, b) => {
-                let first = a.boxed(alloc)?;
-                let second = b.boxed(alloc)?;
-                Ok(self.over_two(first, second))
-            }
-            Rel::Not(a) => {
-                let part = a.boxed(alloc)?;
-                Ok(Rel::Not(part))
-            }
-        }
+        self.rebuilt(alloc, &Same)
     }
 
-    #[cycle(copy_rel)]
     pub(crate) fn boxed(&self, alloc: Global) -> Result<Box<Rel>, NoMemory>
         ensures { IfOk result (λ new. rel_tree new.value ≡ rel_tree self.now) }
     {
         Ok(Box::new(alloc, self.try_copy(alloc)?)?)
     }
 
-    // The same relation of two set forms equal to its own.
-    fn over_sets(&self, a: Box<SetTerm>, b: Box<SetTerm>) -> Rel
-        requires { IsRelOverSets (rel_tree self.now) (set_tree a.value) (set_tree b.value) }
-        ensures { rel_tree result ≡ rel_tree self.now }
+    /// The same relation of two other set forms.
+    pub fn over_sets(&self, a: Box<SetTerm>, b: Box<SetTerm>) -> Rel
+        requires { RelHasSets (rel_tree self.now) }
+        ensures { rel_tree result ≡ rel_over_sets (rel_tree self.now) (set_tree a.value) (set_tree b.value) }
     {
         match self {
             Rel::SameSet(_, _) => Rel::SameSet(a, b),
@@ -159,10 +115,10 @@ impl Rel {
         }
     }
 
-    // The same relation of two relations equal to its own.
-    fn over_two(&self, a: Box<Rel>, b: Box<Rel>) -> Rel
-        requires { IsRelOverTwo (rel_tree self.now) (rel_tree a.value) (rel_tree b.value) }
-        ensures { rel_tree result ≡ rel_tree self.now }
+    /// The same relation of two other relations.
+    pub fn over_two(&self, a: Box<Rel>, b: Box<Rel>) -> Rel
+        requires { RelHasTwoParts (rel_tree self.now) }
+        ensures { rel_tree result ≡ rel_over_two (rel_tree self.now) (rel_tree a.value) (rel_tree b.value) }
     {
         match self {
             Rel::And(_, _) => Rel::And(a, b),

@@ -6,10 +6,10 @@ use Rattle.cf_answer.proofs.exec.run_target.Goals as goal
 pub returns-in_err-target-clause-answers : goal.returns-in_err-target-clause-answers
 returns-in_err-target-clause-answers g c =
     let p = err_from_is_err_and c.from_residual.result c.from_residual.ensures.1 in
-    λ file given. rw (p.1, p.2) (stopped_answers _ given given _ _ _ refl c.in_err-target.ensures)
+    λ form file given. rw (p.1, p.2) (stopped_answers _ given given _ _ _ refl c.in_err-target.ensures)
 
 pub returns-clause-answers : goal.returns-clause-answers
 returns-clause-answers g c =
-    λ file given. through_answers _ given given _ _ _ _ _ _ refl refl refl (λ ls replies r. (c.in_ok-target.target, c.in_ok-target.ensures, r))
+    λ form file given. through_answers _ given given _ _ _ _ _ _ refl refl refl (λ ls replies r. (c.in_ok-target.target, c.in_ok-target.ensures, r))
     (rw c.edition_of.ensures.is at c.answer_by.ensures.through) c.answer_by.ensures.input c.answer_by.ensures.output
     (rw c.edition_of.ensures.is at c.answer_by.ensures.given) c.answer_by.ensures.ends

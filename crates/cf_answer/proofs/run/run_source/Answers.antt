@@ -8,16 +8,16 @@ use Rattle.cf_answer.proofs.run.run_source.Goals as goal
 pub returns-in_err-answerer-clause-answers : goal.returns-in_err-answerer-clause-answers
 returns-in_err-answerer-clause-answers g c =
     let p = err_from_is_err_and c.from_residual.result c.from_residual.ensures.1 in
-    λ file. rw (p.1, p.2) (stopped_answers _ _ _ _ _ _ c.in_err-answerer.ensures.kept c.in_err-answerer.ensures.verdict)
+    λ form file. rw (p.1, p.2) (stopped_answers _ _ _ _ _ _ c.in_err-answerer.ensures.kept c.in_err-answerer.ensures.verdict)
 
 pub returns-in_err-end-clause-answers : goal.returns-in_err-end-clause-answers
 returns-in_err-end-clause-answers g c =
     let p = err_from_is_err_and c.from_residual-in_err-end.result c.from_residual-in_err-end.ensures.1 in
-    λ file. rw (p.1, p.2) (run_without_memory c.args.flags file _ _ _ _ (c.in_ok-answerer.ensures.verdict [] [] refl))
+    λ form file. rw (p.1, p.2) (run_without_memory c.args.flags form file _ _ _ _ (c.in_ok-answerer.ensures.verdict [] [] refl))
 
 pub returns-clause-answers : goal.returns-clause-answers
 returns-clause-answers g c =
-    λ file. through_answers _ _ _ _ (answerer_of c.in_ok-answerer.answerer) _ _ _ _ refl
+    λ form file. through_answers _ _ _ _ (answerer_of c.in_ok-answerer.answerer) _ _ _ _ refl
     (run_passed _ _ _ _ _ _ (c.in_ok-answerer.ensures.verdict [] [] refl))
     (c.deref-2.ensures.value ∙ (rw c.deref.ensures.value at c.in_ok-end.ensures)) c.in_ok-answerer.ensures.verdict
     (rw c.edition_of.ensures.is at c.answer_by.ensures.through)

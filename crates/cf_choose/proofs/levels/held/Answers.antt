@@ -1,5 +1,5 @@
+use Rattle.cf_tree.specs.Occurs.{rel_holds}
 use Rattle.cf_tree.specs.RelView.{rel_tree}
-use Rattle.cf_linear.specs.Layout.{rel_holds}
 use Rattle.cf_choose.proofs.LevelLemmas.{held_more}
 use Rattle.cf_choose.proofs.levels.held.Goals as goal
 

@@ -1,6 +1,6 @@
 use Rattle.std.proofs.Common.{◌≡◌, ◌++◌, drop, filter}
+use Rattle.cf_tree.specs.Occurs.{rel_holds}
 use Rattle.cf_tree.specs.RelView.{rel_tree}
-use Rattle.cf_linear.specs.Layout.{rel_holds}
 use Rattle.cf_choose.proofs.levels.held.Given as goal
 
 abbrev pub invariant-loop-x : goal.invariant-loop-x

@@ -21,4 +21,5 @@ pub returns-clause-command : goal.returns-clause-command
 returns-clause-command c =
     let file : c.get_str.result ≡ Some c.in_ok-file.file = search rules in
     let steps : c.get_str-2.result ≡ Some c.in_ok-steps.steps = search rules in
-    files_are c.args.found.now (Some c.in_ok-file.file) (Some c.in_ok-steps.steps) (rw file at c.get_str.ensures) (rw steps at c.get_str-2.ensures)
+    c.verify_for.ensures.command
+    ∙ files_are c.args.found.now (Some c.in_ok-file.file) (Some c.in_ok-steps.steps) (rw file at c.get_str.ensures) (rw steps at c.get_str-2.ensures)

@@ -1,0 +1,12 @@
+mod CauseLaws
+mod FoundSteps
+mod LastLemmas
+mod MessageTexts
+mod PlaceTexts
+mod ReturnLemmas
+mod RuleTexts
+mod SeenSteps
+mod StopLemmas
+mod SyntaxTexts
+mod ValueSteps
+mod RowSteps
