@@ -4,7 +4,7 @@ examples/ holds sources, each with its input lines in NAME.in; refused/ there ho
 by hand. tests/examples has for NAME.cf what must be written: NAME.out by `run`, NAME.target by `compile`, NAME.pre, NAME.check, and NAME.steps by `prove`. A
 source that is linear only on the numbers of a line has NAME.err in place of the last four, the line with which these commands refuse it. A source that is
 refused has NAME.err; steps have NAME.out with the lines in which `verify` accepts them, or NAME.err with that in which it rejects them.
-A target or steps that are given to the program, as a page quotes it, lie beside their source instead.
+A target or steps that are given to the program, as a page quotes it, lie beside their source instead, and so do lines with keys, in NAME.keyed.
 """
 
 from __future__ import annotations

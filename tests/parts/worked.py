@@ -70,6 +70,8 @@ def owed() -> Iterator[str]:
 def sources_and_inputs() -> Iterator[str]:
     for name in examples.names():
         yield from (f"{name}.cf", f"{name}.in")
+        if (EXAMPLES / f"{name}.keyed").exists():
+            yield f"{name}.keyed"
     for name in examples.names("refused"):
         yield f"{name}.cf"
     for name in examples.names("steps"):

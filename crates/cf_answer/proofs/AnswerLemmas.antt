@@ -15,7 +15,7 @@ use Rattle.cf_answer.specs.Ends.{Job, input_for, answered_lines, behind_lines, R
 use Rattle.cf_answer.specs.Limits.{edition_for, input_most}
 use Rattle.cf_tree.specs.declared.base.Edition.{Edition}
 use Rattle.cf_answer.specs.Outside.{Streams, streams, AreTold, Counts, one_past}
-use Rattle.cf_answer.specs.Owed.{Answerer, AreReplies, Owes}
+use Rattle.cf_answer.specs.Owed.{Replier, AreReplies, Owes}
 use Rattle.cf_answer.specs.Passes.{ArePassed, closing}
 use Rattle.cf_answer.specs.Refusals.{Refuses}
 use Rattle.cf_answer.specs.Statuses.{fault_status, status_of, IsEarly}
@@ -280,7 +280,7 @@ printed_answers c given last files printed bytes input old new (Err f) e p owed 
 -- ---- what answers the input
 
 -- what is known of a command that answers the input so
-record AnswersBy (job : Job) (who : Answerer) : Type 0 where
+record AnswersBy (job : Job) (who : Replier) : Type 0 where
   reads : reads_input job.command ≡ true
   owes : (ls : List (List ℕ)) (replies : List ℕ) → AreReplies who ls replies → Owes job.command job.files job.given job.passes ls replies
 
@@ -291,7 +291,7 @@ reads_unlimited (prove file) edition count e = cc
 reads_unlimited c edition count e = tt
 
 wrote_by : (job : Job) (before after : Streams) (Took : Option (List ℕ) → Option (List ℕ) → List ℕ → Type 0) (front : List ℕ) (ls : List (List ℕ))
-    (end text : List ℕ) (who : Answerer) →
+    (end text : List ℕ) (who : Replier) →
     AnswersBy job who → Consumes before.input.left after.input.left front → AreReplies who ls text → Took before.out.held after.out.held (text ++ end) →
     Wrote job before after Took front ls end
 wrote_by job before after Took front ls end text who by read replies took = record {
@@ -303,7 +303,7 @@ wrote_by job before after Took front ls end text who by read replies took = reco
 }
 
 -- a prefix of what is owed for what was read and what is left
-stopped_by : (job : Job) (before after : Streams) (front rest text : List ℕ) (who : Answerer) → AnswersBy job who →
+stopped_by : (job : Job) (before after : Streams) (front rest text : List ℕ) (who : Replier) → AnswersBy job who →
     Consumes before.input.left after.input.left front →
     AreTold after.input.left rest →
     AreReplies who (answered_lines (input_most job.files) (front ++ rest)) text →
@@ -320,7 +320,7 @@ stopped_by job before after front rest text who by read told replies took = (
       (behind_lines (input_most job.files) (front ++ rest) (closing job.command job.passes)) text who by read replies took),
 )
 
-cut_ends : (job : Job) (before after : Streams) (who : Answerer) (f : Fault) → AnswersBy job who →
+cut_ends : (job : Job) (before after : Streams) (who : Replier) (f : Fault) → AnswersBy job who →
     RunsOn who (input_most job.files) before.input.left after.input.left before.out.held after.out.held (Err f) → Ends job before after (Err f)
 cut_ends job before after who fault.InputTooLong by r = (
   r.front,
@@ -344,7 +344,7 @@ cut_ends job before after who fault.NoMemory by r =
 cut_ends job before after who f by r = absurd r.runs
 
 -- all replies were written, and then a prefix of what stands behind them
-part_ends : (job : Job) (before after : Streams) (who : Answerer) (mid : Option (List ℕ)) → AnswersBy job who →
+part_ends : (job : Job) (before after : Streams) (who : Replier) (mid : Option (List ℕ)) → AnswersBy job who →
     RunsOn who (input_most job.files) before.input.left after.input.left before.out.held mid (Ok tt) →
     TookPrefix mid after.out.held (closing job.command job.passes) → IsStopped job before after
 part_ends job before after who mid by r (first, rest, is, took) =
@@ -364,7 +364,7 @@ part_ends job before after who mid by r (first, rest, is, took) =
           took,
     )))
 
-through_ends : (job : Job) (before after : Streams) (who : Answerer) (end : List ℕ) (answer : Result (Unit {0}) Fault) → AnswersBy job who →
+through_ends : (job : Job) (before after : Streams) (who : Replier) (end : List ℕ) (answer : Result (Unit {0}) Fault) → AnswersBy job who →
     end ≡ closing job.command job.passes →
     RunsThrough who (input_most job.files) end before.input.left after.input.left before.out.held after.out.held answer → Ends job before after answer
 through_ends job before after who end answer by is (cut f e r) = subst (Ends job before after) (sym e) (cut_ends job before after who f by r)
@@ -381,7 +381,7 @@ through_ends job before after who end answer by is (whole mid r e took) =
           (Appends-trans before.out.held mid after.out.held text (closing job.command job.passes) r.runs.2.2 (subst (Appends mid after.out.held) is took)),
     )
 
-runs_other : (who : Answerer) (most : Option ℕ) (left still_left old new : Option (List ℕ)) (f : Fault) → RunsOn who most left still_left old new (Err f) →
+runs_other : (who : Replier) (most : Option ℕ) (left still_left old new : Option (List ℕ)) (f : Fault) → RunsOn who most left still_left old new (Err f) →
     IsOther f
 runs_other who most left still_left old new fault.Usage r = r.runs
 runs_other who most left still_left old new fault.File r = r.runs
@@ -393,7 +393,7 @@ record Bounded (most : Option ℕ) (left still_left : Option (List ℕ)) (answer
   not_usage : answer ≡ Err fault.Usage → ⊥
   not_file : answer ≡ Err fault.File → ⊥
 
-bounded : (most : Option ℕ) (left still_left old new : Option (List ℕ)) (who : Answerer) (end : List ℕ) (answer : Result (Unit {0}) Fault) →
+bounded : (most : Option ℕ) (left still_left old new : Option (List ℕ)) (who : Replier) (end : List ℕ) (answer : Result (Unit {0}) Fault) →
     RunsThrough who most end left still_left old new answer → Bounded most left still_left answer
 bounded most left still_left old new who end answer (cut f e r) =
     let other = runs_other who most left still_left old new f r in
@@ -405,7 +405,7 @@ bounded most left still_left old new who end answer (part mid f r e out took) =
 bounded most left still_left old new who end answer (whole mid r e took) =
     subst (Bounded most left still_left) (sym e) (record { front = (r.front, r.past, r.read); not_usage = λ i. cc; not_file = λ i. cc })
 
-pub through_answers : (c : Command) (given last : List Told) (files : List (List ℕ)) (who : Answerer) (end : List ℕ) (before after : Streams)
+pub through_answers : (c : Command) (given last : List Told) (files : List (List ℕ)) (who : Replier) (end : List ℕ) (before after : Streams)
     (answer : Result (Unit {0}) Fault) → reads_input c ≡ true →
     ArePassed (calls_passes c) given last → end ≡ closing c last →
     ((ls : List (List ℕ)) (replies : List ℕ) → AreReplies who ls replies → Owes c files given last ls replies) →
@@ -427,7 +427,7 @@ through_answers c given last files who end before after answer e p is owes r inp
     }
 
 -- the end is written behind the replies
-pub through_written : (who : Answerer) (most : Option ℕ) (end : List ℕ) (left still_left old mid new : Option (List ℕ)) (done : Unit {0})
+pub through_written : (who : Replier) (most : Option ℕ) (end : List ℕ) (left still_left old mid new : Option (List ℕ)) (done : Unit {0})
     (answer : Result (Unit {0}) Fault) →
     RunsOn who most left still_left old mid (Ok done) → OnOk answer (Appends mid new end) → TookPrefix mid new end → IfErr answer IsOutFault →
     RunsThrough who most end left still_left old new answer

@@ -1,5 +1,5 @@
 -- Ends of commands with the messages about their sources.
-use Rattle.std.proofs.Common.{◌≡◌, ◌∙◌, inl, inr, sym, ap, subst, refl, ℕ, ◌≤◌, ◌<◌, ◌+◌, List, [], ◌∷◌, length, take, Option, Some, None, arith}
+use Rattle.std.proofs.Common.{◌≡◌, ◌∙◌, inl, inr, sym, ap, subst, refl, ℕ, ◌≤◌, ◌<◌, ◌+◌, List, length, take, Option, Some, None, arith}
 use Rattle.std.proofs.lemmas.List.{length-take, take_all}
 use Rattle.std.specs.Prelude.{◌⊎◌, Result, Ok, Err, IfSome}
 use Rattle.cf_lex.specs.Editions.{edition_of}
@@ -7,18 +7,12 @@ use Rattle.cf_tree.specs.declared.base.Edition.{Edition}
 use Rattle.cf_tree.specs.declared.base.Edition.TheVariants.{Two, Three}
 use Rattle.cf_pass.specs.Passes.{Told}
 use Rattle.cf_program.specs.declared.linearity.Linearity.{Linearity}
-use Rattle.cf_words.specs.Commands.{Command, command_on}
-use Rattle.cf_words.specs.declared.command.CommandKind.{CommandKind}
-use Rattle.cf_words.specs.declared.command.CommandKind.TheVariants.{Compile, Run, Pre, Check, Exec, Prove}
-use Rattle.cf_words.specs.declared.command.Flags.{Flags}
-use Rattle.cf_words.specs.declared.command.ReplyForm.{ReplyForm}
-use Rattle.cf_answer.specs.Commands.{names_of}
+use Rattle.cf_words.specs.Commands.{Command}
 use Rattle.cf_answer.specs.Ends.{Job, Ends, Does}
-use Rattle.cf_answer.specs.Limits.{text_limit}
-use Rattle.cf_answer.specs.Outside.{Outside, Streams, AreTold, Blames}
+use Rattle.cf_answer.specs.Outside.{Outside, Streams, AreTold}
 use Rattle.cf_answer.specs.Statuses.{IsEarly, status_of}
 use Rattle.cf_answer.specs.Texts.{answer_line, fault_line}
-use Rattle.cf_answer.specs.Written.{source_of, linearity_of, front_of, message_or, line_of, IsOfText, IsSaid, IsSaidIn, IsDeserted, IsWritten, IsWrittenOf, IsWrittenBy}
+use Rattle.cf_answer.specs.Written.{source_of, linearity_of, front_of, line_of, IsOfText, IsSaidIn, IsWrittenOf, IsWrittenBy}
 use Rattle.cf_answer.specs.declared.ended.Ended.{Ended}
 use Rattle.cf_answer.specs.declared.fault.Fault.{Fault}
 use Rattle.cf_answer.specs.declared.fault.Fault.TheVariants as fault
@@ -130,52 +124,6 @@ written_by : (command : Option Command) (texts : List ℕ → Option (List ℕ))
 written_by None texts f p = refl
 written_by (Some c) texts f p = inl (written_of (source_of c) (linearity_of c) texts f p)
 
--- a command on one file
-pub one_name : (kind : CommandKind) (flags : Flags) (form : ReplyForm) (name : List ℕ) → names_of (command_on kind flags form name) ≡ name ∷ []
-one_name Compile flags form name = refl
-one_name Run flags form name = refl
-one_name Pre flags form name = refl
-one_name Check flags form name = refl
-one_name Exec flags form name = refl
-one_name Prove flags form name = refl
-
--- nothing is written where whoever reads the output went away
-pub deserted : (kind : CommandKind) (flags : Flags) (form : ReplyForm) (name : List ℕ) (texts : List ℕ → Option (List ℕ)) (most : ℕ) (whole front : List ℕ)
-    (answer : Result (Unit {0}) Fault) (e : Ended) → AreTold (texts name) whole → front ≡ take (most + 1) whole →
-    (answer ≡ Err fault.TextTooLong) ⊎ (length front ≤ most) → (answer ≡ Err fault.Output) × (edition_of front ≡ Three) → e.answer ≡ answer →
-    e.message ≡ Some [] → IsWrittenBy (Some (command_on kind flags form name)) texts e.answer (line_of e)
-deserted kind flags form name texts most whole front answer e told read (inl long) (is, three) same none =
-    let clash : failed fault.TextTooLong ≡ failed fault.Output = sym long ∙ is in cc
-deserted kind flags form name texts most whole front answer e told read (inr short) (is, three) same none =
-    let whole_is = whole_read most whole front read short in
-    inr (subst (λ ns. IsDeserted ns texts e.answer (line_of e)) (sym (one_name kind flags form name))
-    (same ∙ is, rw none refl, whole, told, subst (λ text. edition_of text ≡ Three) whole_is three))
-
 pub plain_written : (command : Option Command) (texts : List ℕ → Option (List ℕ)) (f : Fault) (e : Ended) → IsPlain f → e.answer ≡ Err f → e.message ≡ None →
     IsWrittenBy command texts e.answer (line_of e)
 plain_written command texts f e p is none = rw (is, none) (written_by command texts f p)
-
--- the message about a text as far as it was read is that about the whole
-whole_said : (how : Linearity) (name front whole line : List ℕ) (f : Fault) → front ≡ front_of whole → (f ≡ fault.TextTooLong) ⊎ (length front ≤ text_limit) →
-    IsSaid how name front f line → IsSaid how name whole f line
-whole_said how name front whole line f read (inl long) h =
-    subst (λ g. IsSaid how name whole g line) (sym long) (subst (λ g. IsSaid how name front g line) long h)
-whole_said how name front whole line f read (inr short) h =
-    subst (λ text. IsSaid how name text f line) (whole_read text_limit whole front read short) h
-
-pub written_in_two : (how : Linearity) (name front whole : List ℕ) (f : Fault) (e : Ended) → front ≡ front_of whole → edition_of front ≡ Two →
-    e.answer ≡ Err f → e.message ≡ None → IsWritten how name whole e.answer (line_of e)
-written_in_two how name front whole f e read two is none =
-    let edition : edition_of (front_of whole) ≡ Two = ap edition_of (sym read) ∙ two in
-    rw (is, none) (subst (λ d. IsSaidIn d how name whole f (fault_line f)) (sym edition) refl)
-
-pub written_in_three : (how : Linearity) (name front whole : List ℕ) (f : Fault) (e : Ended) → front ≡ front_of whole → edition_of front ≡ Three →
-    (f ≡ fault.TextTooLong) ⊎ (length front ≤ text_limit) → e.answer ≡ Err f → IsSaid how name front f (message_or e.message (fault_line f)) →
-    IsWritten how name whole e.answer (line_of e)
-written_in_three how name front whole f e read three short is h =
-    let edition : edition_of (front_of whole) ≡ Three = ap edition_of (sym read) ∙ three in
-    rw is (subst (λ d. IsSaidIn d how name whole f (message_or e.message (fault_line f))) (sym edition) (whole_said how name front whole _ f read short h))
-
-pub memory_written : (how : Linearity) (name whole : List ℕ) (e : Ended) → e.answer ≡ Err fault.NoMemory → e.message ≡ None →
-    IsWritten how name whole e.answer (line_of e)
-memory_written how name whole e is none = rw (is, none) (plain_memory (edition_of (front_of whole)) how name whole)

@@ -12,9 +12,12 @@ use Rattle.cf_emit.specs.ReadsBack.{ReadsBack}
 use Rattle.cf_words.specs.Commands.{compile, run, gen}
 use Rattle.cf_answer.specs.Ends.{AnswersOn}
 use Rattle.cf_answer.specs.Outside.{Streams}
-use Rattle.cf_answer.specs.Owed.{IsCompiledBy, OwesRun, compiled, late, sum_line, Owes}
+use Rattle.cf_answer.specs.Forms.{Form, form_of}
+use Rattle.cf_answer.specs.Owed.{IsCompiledBy, AreReplies, OwesRun, compiled, late, OwesNamed, sum_line, Owes}
 use Rattle.cf_answer.specs.Passes.{ArePassed, applied}
-use Rattle.cf_answer.specs.Steps.{AddUp}
+use Rattle.cf_answer.specs.Steps.{AddUp, IsNamedRunner, replier_of}
+use Rattle.cf_answer.specs.declared.answerer.Replier.{Replier}
+use Rattle.cf_answer.specs.declared.answerer.Runner.{Runner}
 use Rattle.cf_answer.specs.declared.fault.Fault.TheVariants as fault
 use Rattle.cf_words.specs.declared.command.Flags.{Flags}
 use Rattle.cf_words.specs.declared.command.ReplyForm.{ReplyForm}
@@ -46,13 +49,27 @@ pub workload_without_memory : (n : ℕ) (given last : List Told) (s : Streams) (
 workload_without_memory n given last s t (c, called) =
     memory_answers (gen n) given last [] s (called_passed true given last called) (λ f r. absurd (compiled_unrefused given last (gen_source n) t f c r))
 
-pub run_passed : (calls : Bool) (file : List ℕ) (given last : List Told) (ls : List (List ℕ)) (text : List ℕ) → OwesRun calls file given last ls text →
-    ArePassed calls given last
-run_passed calls file given last ls text (compiled t (c, called) replies picked) = called_passed calls given last called
-run_passed calls file given last ls text (late typed s replies allowed same) = kept_passed calls given last same
+run_called : (calls : Bool) (form : Form) (file : List ℕ) (given last : List Told) (ls : List (List ℕ)) (text : List ℕ) →
+    OwesRun calls form file given last ls text → ArePassed calls given last
+run_called calls form file given last ls text (compiled t (c, called) replies picked) = called_passed calls given last called
+run_called calls form file given last ls text (late typed s replies allowed same) = kept_passed calls given last same
 
-pub run_without_memory : (flags : Flags) (form : ReplyForm) (name file : List ℕ) (given last : List Told) (s : Streams) →
-    OwesRun (not flags.plain) file given last [] [] → AnswersOn (run flags form name) given last (file ∷ []) s s (Err fault.NoMemory)
-run_without_memory flags form name file given last s h =
-    memory_answers (run flags form name) given last (file ∷ []) s (run_passed (not flags.plain) file given last [] [] h)
-    (λ f r. absurd (run_unrefused (not flags.plain) file given last [] [] f h r))
+pub run_passed : (calls : Bool) (asked : ReplyForm) (file : List ℕ) (given last : List Told) (ls : List (List ℕ)) (text : List ℕ) →
+    OwesNamed calls asked file given last ls text → ArePassed calls given last
+run_passed calls asked file given last ls text (names, named, owes) = run_called calls (form_of asked names) file given last ls text owes
+
+pub run_without_memory : (flags : Flags) (asked : ReplyForm) (name file : List ℕ) (given last : List Told) (s : Streams) →
+    OwesNamed (not flags.plain) asked file given last [] [] → AnswersOn (run flags asked name) given last (file ∷ []) s s (Err fault.NoMemory)
+run_without_memory flags asked name file given last s (names, named, owes) =
+    memory_answers (run flags asked name) given last (file ∷ []) s (run_called (not flags.plain) (form_of asked names) file given last [] [] owes)
+    (λ f r. absurd (run_unrefused (not flags.plain) (form_of asked names) file given last [] [] f owes r))
+
+-- what answers lines by the source's names replies as is owed
+pub named_owes : (calls : Bool) (source : List ℕ) (given last : List Told) (r : Replier) (ls : List (List ℕ)) (text : List ℕ) →
+    IsNamedRunner calls source given last r.runner → AreReplies (replier_of r) ls text → OwesNamed calls r.form source given last ls text
+named_owes calls source given last r ls text h replies = (r.runner.names.items, h.1, h.0 (form_of r.form r.runner.names.items) ls text replies)
+
+-- without lines nothing is written
+pub named_none : (calls : Bool) (asked : ReplyForm) (source : List ℕ) (given last : List Told) (r : Runner) → IsNamedRunner calls source given last r →
+    OwesNamed calls asked source given last [] []
+named_none calls asked source given last r h = (r.names.items, h.1, h.0 (form_of asked r.names.items) [] [] refl)

@@ -1,5 +1,5 @@
 -- Worked examples of sources whose coefficients are inputs: what `run` replies to a line, and what it refuses.
-use Rattle.std.proofs.Common.{◌≡◌, ap, subst, refl, ℕ, true, pos, List, [], ◌∷◌, ◌++◌, ◌-◌, ◌+◌, Err, Some, codes, arith}
+use Rattle.std.proofs.Common.{◌≡◌, ap, subst, refl, ℕ, true, pos, List, [], ◌∷◌, ◌++◌, ◌-◌, ◌+◌, Err, Some, codes, arith, false}
 use Rattle.std.specs.Fmt.{digits}
 use Rattle.cf_num.specs.Divisors.{gcd_by, factors_by}
 use Rattle.cf_num.specs.Limit.{limit as greatest}
@@ -31,11 +31,13 @@ use Rattle.cf_parse.specs.Programs.{IsProgram}
 use Rattle.cf_program.specs.declared.linearity.Linearity.TheVariants.{Plain}
 use Rattle.cf_program.specs.Checked.{TypedTree, checked}
 use Rattle.cf_program.specs.declared.fault.TypeFault.TheVariants as rule
-use Rattle.cf_answer.specs.LateReplies.{main_comes, IsLateReply, comes}
+use Rattle.cf_answer.specs.Forms.{as_text, Form}
+use Rattle.cf_answer.specs.LateReplies.{main_comes}
 use Rattle.cf_answer.specs.Limits.{of_source}
-use Rattle.cf_answer.specs.Owed.{by_late, AreReplies, OwesRun, compiled, late}
+use Rattle.cf_answer.specs.Owed.{by_late, IsReplyBy, AreReplies, OwesRun, compiled, late}
 use Rattle.cf_pass.specs.Passes.{Told}
 use Rattle.cf_answer.specs.Picked.{main_bases}
+use Rattle.cf_answer.specs.Replies.{comes}
 use Rattle.cf_answer.specs.Refusals.{broken, IsBadProgram, unruly, IsBadRun, broken_late}
 use Rattle.cf_answer.specs.Sources.{IsTypedBy, IsTypedSource, IsCheckedLate, IsLateSource}
 use Rattle.cf_answer.specs.declared.fault.Fault.{Fault}
@@ -120,10 +122,10 @@ abbrev first_tally : List Told → ℕ
 first_tally [] = 0
 first_tally (p ∷ ps) = p.tally
 
-a_pass_that_worked : (source : List ℕ) (tree : TypedTree) (ls : List (List ℕ)) (text : List ℕ) → IsLateSource source tree →
-    OwesRun true source (told 0) (told 1) ls text → ⊥
-a_pass_that_worked source tree ls text l (compiled t (c, turned) replies picked) = not_compiled source tree c.0 l c.1
-a_pass_that_worked source tree ls text l (late other s replies allowed same) = let one : 1 ≡ 0 = ap first_tally same in omega (arith, one)
+a_pass_that_worked : (form : Form) (source : List ℕ) (tree : TypedTree) (ls : List (List ℕ)) (text : List ℕ) → IsLateSource source tree →
+    OwesRun true form source (told 0) (told 1) ls text → ⊥
+a_pass_that_worked form source tree ls text l (compiled t (c, turned) replies picked) = not_compiled source tree c.0 l c.1
+a_pass_that_worked form source tree ls text l (late other s replies allowed same) = let one : 1 ≡ 0 = ap first_tally same in omega (arith, one)
 
 -- ---- what it replies
 -- the values that a line is read as are those that it spells
@@ -143,9 +145,9 @@ unfolding arms arm first_systems disjuncts system_of_case write_atom run run_for
     refusal_by case_count written_passes first_refused digits
 three_in_twelve = refl
 
-reply_of_twelve : IsLateReply quotient_tree (codes "3 12") (codes "4")
+reply_of_twelve : IsReplyBy as_text (by_late quotient_tree) (codes "3 12") (codes "4")
 unfolding line_limit
-reply_of_twelve = subst (IsLateReply quotient_tree (codes "3 12")) three_in_twelve
+reply_of_twelve = subst (IsReplyBy as_text (by_late quotient_tree) (codes "3 12")) three_in_twelve
     (comes (number (pos 3) ∷ number (pos 12) ∷ []) (omega arith) (spells (Int ∷ Int ∷ []) (codes "3 12") _ three_and_twelve))
 
 three_in_ten : late_text (main_comes quotient_tree (number (pos 3) ∷ number (pos 10) ∷ [])) ≡ codes "no solution at choose 1"
@@ -154,9 +156,9 @@ unfolding arms arm first_systems disjuncts system_of_case write_atom run run_for
     refusal_by case_count written_passes first_refused digits
 three_in_ten = refl
 
-reply_of_ten : IsLateReply quotient_tree (codes "3 10") (codes "no solution at choose 1")
+reply_of_ten : IsReplyBy as_text (by_late quotient_tree) (codes "3 10") (codes "no solution at choose 1")
 unfolding line_limit
-reply_of_ten = subst (IsLateReply quotient_tree (codes "3 10")) three_in_ten
+reply_of_ten = subst (IsReplyBy as_text (by_late quotient_tree) (codes "3 10")) three_in_ten
     (comes (number (pos 3) ∷ number (pos 10) ∷ []) (omega arith) (spells (Int ∷ Int ∷ []) (codes "3 10") _ refl))
 
 -- a <= p * x + q * y && p * x + q * y <= b
@@ -184,18 +186,18 @@ unfolding arms arm first_systems disjuncts system_of_case write_atom run run_for
     refusal_by case_count written_passes first_refused digits
 too_many = refl
 
-reply_of_sevens : IsLateReply weights (codes "2 3 7 7") (codes "14 -7")
+reply_of_sevens : IsReplyBy as_text (by_late weights) (codes "2 3 7 7") (codes "14 -7")
 unfolding line_limit
-reply_of_sevens = subst (IsLateReply weights (codes "2 3 7 7")) sevens
+reply_of_sevens = subst (IsReplyBy as_text (by_late weights) (codes "2 3 7 7")) sevens
     (comes (number (pos 2) ∷ number (pos 3) ∷ number (pos 7) ∷ number (pos 7) ∷ []) (omega arith) (spells four (codes "2 3 7 7") _ refl))
 
-reply_of_large : IsLateReply weights (codes "2097152 2097153 0 9") (codes "choose 1: Search 2097152")
+reply_of_large : IsReplyBy as_text (by_late weights) (codes "2097152 2097153 0 9") (codes "choose 1: Search 2097152")
 unfolding line_limit
-reply_of_large = subst (IsLateReply weights (codes "2097152 2097153 0 9")) too_many
+reply_of_large = subst (IsReplyBy as_text (by_late weights) (codes "2097152 2097153 0 9")) too_many
     (comes large (omega arith) (spells four (codes "2097152 2097153 0 9") _ refl))
 
 -- the line behind a refused one is answered
-refused_between : AreReplies (by_late weights) (codes "2 3 7 7" ∷ codes "2097152 2097153 0 9" ∷ codes "2 3 7 7" ∷ [])
+refused_between : AreReplies (record { by = by_late weights; form = record { key = false; wording = as_text } }) (codes "2 3 7 7" ∷ codes "2097152 2097153 0 9" ∷ codes "2 3 7 7" ∷ [])
     (codes "14 -7\nchoose 1: Search 2097152\n14 -7\n")
 refused_between = (
   codes "14 -7",

@@ -19,6 +19,7 @@ pub mod EndedLemmas
 mod Examples
 pub mod FaultLemmas
 pub mod FileLemmas
+mod FormExamples
 pub mod FormedLemmas
 pub mod HeadLemmas
 mod LateExamples
@@ -27,8 +28,10 @@ mod LimitExamples
 mod LineExamples
 pub mod LoweredLemmas
 pub mod MatchClassLemmas
+mod NameExamples
 pub mod NameLemmas
 pub mod OriginLemmas
+pub mod OutcomeLemmas
 mod OutsideExamples
 pub mod OutsideLemmas
 mod OwedExamples

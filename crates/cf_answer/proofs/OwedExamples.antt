@@ -1,5 +1,5 @@
 -- Worked examples: what each command owes on the texts of its files.
-use Rattle.std.proofs.Common.{◌≡◌, ◌⊎◌, ◌-◌, ◌^◌, ℕ, ℤ, true, false, List, [], ◌∷◌, length, inl, inr, refl, codes}
+use Rattle.std.proofs.Common.{◌≡◌, ◌⊎◌, ℕ, ℤ, Bool, true, false, nat_le, List, [], ◌∷◌, length, inl, inr, refl, sym, subst, codes}
 use Rattle.std.specs.Prelude.{negsuc, flat_map}
 use Rattle.std.specs.Fmt.{digits}
 use Rattle.cf_gen.specs.Workload.{gen_source, gen_lines}
@@ -14,7 +14,12 @@ use Rattle.cf_target.specs.Spelling.{target_tree}
 use Rattle.cf_program.specs.Checked.{TypedTree}
 use Rattle.cf_form.specs.Branches.{Branch}
 use Rattle.cf_form.specs.Told.{ToldChoose}
-use Rattle.cf_eval.specs.Replies.{IsReply}
+use Rattle.cf_num.specs.Limit.{limit}
+use Rattle.cf_eval.specs.Replies.{IsReply, meaning_text, too_long as is_too_long, bad_input as is_bad_input, meaning}
+use Rattle.cf_late.specs.Texts.{late_text}
+use Rattle.cf_tree.specs.CodeView.{code_tree}
+use Rattle.cf_tree.specs.Meaning.{peak}
+use Rattle.cf_tree.specs.Values.{Value}
 use Rattle.cf_pass.specs.Passes.{Told, HaveTurned}
 use Rattle.cf_words.specs.declared.command.Flags.{Flags}
 use Rattle.cf_words.specs.declared.command.ReplyForm.{ReplyForm}
@@ -22,9 +27,12 @@ use Rattle.cf_words.specs.Commands.{compile, run, pre, check, exec, prove, verif
 use Rattle.cf_answer.specs.About.{help_text}
 use Rattle.cf_answer.specs.Branches.{AreBranched}
 use Rattle.cf_answer.specs.Certificates.{AreProofs, AreVerified, verified_line}
+use Rattle.cf_answer.specs.Forms.{as_text, Form, form_of}
 use Rattle.cf_answer.specs.LateReplies.{AreRunsAllowed}
-use Rattle.cf_answer.specs.Owed.{by_target, by_late, IsReplyBy, AllReplied, AreReplies, ArePicked, IsCompiledBy, OwesRun, compiled, late, IsPrinted, AllWritten, ArePres, AreChecks, IsSum, sum_line, Owes}
+use Rattle.cf_answer.specs.Owed.{by_target, by_late, comes_by, IsReplyBy, Replier, AllReplied, AreReplies, ArePicked, IsCompiledBy, OwesRun, compiled, late, IsPrinted, AllWritten, ArePres, AreChecks, IsSum, sum_line, Owes}
 use Rattle.cf_answer.specs.Passes.{applied}
+use Rattle.cf_answer.specs.Replies.{too_long, bad_input, comes}
+use Rattle.cf_answer.specs.ResultNames.{AreResultNames}
 use Rattle.cf_answer.specs.Sources.{Compiles, IsTypedSource, AreToldIn, AreToldOf, IsLateSource, IsTypedTarget}
 
 -- the same is owed
@@ -37,7 +45,7 @@ flags = record { plain = false; stats = false }
 abbrev plain : Flags
 plain = record { plain = true; stats = false }
 
-module _ (form : ReplyForm) (name other source steps : List ℕ) (given last : List Told) (ls : List (List ℕ)) (text : List ℕ) where
+module _ (form : ReplyForm) (written : Form) (name other source steps : List ℕ) (given last : List Told) (ls : List (List ℕ)) (text : List ℕ) where
   of-compile : Same (Owes (compile flags name) (source ∷ []) given last ls text)
       ((t : RawTarget) × IsCompiledBy true source given last t × IsPrinted (edition_of source) t text)
   of-compile = (λ h. h, λ h. h)
@@ -46,10 +54,10 @@ module _ (form : ReplyForm) (name other source steps : List ℕ) (given last : L
       ((t : RawTarget) × IsCompiledBy false source given last t × IsPrinted (edition_of source) t text)
   of-plain_compile = (λ h. h, λ h. h)
 
-  of-run : Same (Owes (run flags form name) (source ∷ []) given last ls text) (OwesRun true source given last ls text)
+  of-run : Same (Owes (run flags form name) (source ∷ []) given last ls text) ((names : List (List ℕ)) × AreResultNames source names × OwesRun true (form_of form names) source given last ls text)
   of-run = (λ h. h, λ h. h)
 
-  of-plain_run : Same (Owes (run plain form name) (source ∷ []) given last ls text) (OwesRun false source given last ls text)
+  of-plain_run : Same (Owes (run plain form name) (source ∷ []) given last ls text) ((names : List (List ℕ)) × AreResultNames source names × OwesRun false (form_of form names) source given last ls text)
   of-plain_run = (λ h. h, λ h. h)
 
   of-pre : Same (Owes (pre name) (source ∷ []) given last ls text) ((cs : List (ChooseTree × Branch)) × AreBranched source cs × ArePres cs text)
@@ -60,7 +68,7 @@ module _ (form : ReplyForm) (name other source steps : List ℕ) (given last : L
   of-check = (λ h. h, λ h. h)
 
   of-exec : Same (Owes (exec form name) (source ∷ []) given last ls text)
-      ((t : RawTarget) × IsTypedTarget source (target_tree t) × AreReplies (by_target t) ls text)
+      ((t : RawTarget) × IsTypedTarget source (target_tree t) × AreReplies (record { by = by_target t; form = form_of form [] }) ls text)
   of-exec = (λ h. h, λ h. h)
 
   of-prove : Same (Owes (prove name) (source ∷ []) given last ls text)
@@ -92,23 +100,30 @@ module _ (form : ReplyForm) (name other source steps : List ℕ) (given last : L
   of-help_on_a_file h = h
 
   -- ---- the two ways of a run
+  abbrev to_target : RawTarget → Replier
+  to_target t = record { by = by_target t; form = written }
+
+  abbrev to_late : TypedTree → Replier
+  to_late typed = record { by = by_late typed; form = written }
+
   abbrev Ways : Type 0
   Ways =
-      ((t : RawTarget) × IsCompiledBy true source given last t × AreReplies (by_target t) ls text × ArePicked (length (applied true last)) source ls text)
-      ⊎ ((typed : TypedTree) × IsLateSource source typed × AreReplies (by_late typed) ls text × AreRunsAllowed typed × (last ≡ given))
+      ((t : RawTarget) × IsCompiledBy true source given last t × AreReplies (to_target t) ls text
+      × ArePicked written (length (applied true last)) source ls text)
+      ⊎ ((typed : TypedTree) × IsLateSource source typed × AreReplies (to_late typed) ls text × AreRunsAllowed typed × (last ≡ given))
 
-  goes : OwesRun true source given last ls text → Ways
+  goes : OwesRun true written source given last ls text → Ways
   goes (compiled t c replies picked) = inl (t, c, replies, picked)
   goes (late typed l replies allowed same) = inr (typed, l, replies, allowed, same)
 
-  by-a_target : (t : RawTarget) → IsCompiledBy true source given last t → AreReplies (by_target t) ls text →
-      ArePicked (length (applied true last)) source ls text → OwesRun true source given last ls text
+  by-a_target : (t : RawTarget) → IsCompiledBy true source given last t → AreReplies (to_target t) ls text →
+      ArePicked written (length (applied true last)) source ls text → OwesRun true written source given last ls text
   by-a_target t c replies picked = compiled t c replies picked
 
   -- ---- with no pass
-  plain-ways : OwesRun false source given last ls text →
-      ((t : RawTarget) × IsCompiledBy false source given last t × AreReplies (by_target t) ls text × ArePicked 0 source ls text)
-      ⊎ ((typed : TypedTree) × IsLateSource source typed × AreReplies (by_late typed) ls text × AreRunsAllowed typed × (last ≡ given))
+  plain-ways : OwesRun false written source given last ls text →
+      ((t : RawTarget) × IsCompiledBy false source given last t × AreReplies (to_target t) ls text × ArePicked written 0 source ls text)
+      ⊎ ((typed : TypedTree) × IsLateSource source typed × AreReplies (to_late typed) ls text × AreRunsAllowed typed × (last ≡ given))
   plain-ways (compiled t c replies picked) = inl (t, c, replies, picked)
   plain-ways (late typed l replies allowed same) = inr (typed, l, replies, allowed, same)
 
@@ -117,9 +132,23 @@ module _ (form : ReplyForm) (name other source steps : List ℕ) (given last : L
   compiled-by t = (((λ h. h), λ h. h), ((λ h. h), λ h. h))
 
 -- ---- replies
-reply-of_a_target : (t : RawTarget) (line reply : List ℕ) → Same (IsReplyBy (by_target t) line reply) (IsReply 65536 (2 ^ 127 - 1) t line reply)
-unfolding line_limit
-reply-of_a_target t line reply = (λ h. h, λ h. h)
+-- a target's reply as text is that of its meaning
+text-of : (t : RawTarget) (vs : List Value) (test : Bool) → nat_le (peak (code_tree t.code) vs) limit ≡ test →
+    late_text (comes_by (by_target t) vs) ≡ meaning_text limit t vs
+text-of t vs true e = rw e refl
+text-of t vs false e = rw e refl
+
+reply-of_a_target : (t : RawTarget) (line reply : List ℕ) → IsReplyBy as_text (by_target t) line reply → IsReply line_limit limit t line reply
+reply-of_a_target t line reply (too_long long) = is_too_long long
+reply-of_a_target t line reply (bad_input short none) = is_bad_input short none
+reply-of_a_target t line reply (comes vs short r) =
+    subst (IsReply line_limit limit t line) (sym (text-of t vs (nat_le (peak (code_tree t.code) vs) limit) refl)) (meaning vs short r)
+
+reply-of_target_is_so : (t : RawTarget) (line reply : List ℕ) → IsReply line_limit limit t line reply → IsReplyBy as_text (by_target t) line reply
+reply-of_target_is_so t line reply (is_too_long long) = too_long long
+reply-of_target_is_so t line reply (is_bad_input short none) = bad_input short none
+reply-of_target_is_so t line reply (meaning vs short r) =
+    subst (IsReplyBy as_text (by_target t) line) (text-of t vs (nat_le (peak (code_tree t.code) vs) limit) refl) (comes vs short r)
 
 each-line : AllReplied (λ line reply. reply ≡ 61 ∷ line) (codes "1" ∷ codes "2" ∷ []) (codes "=1\n=2\n")
 each-line = (codes "=1", codes "=2\n", refl, refl, (codes "=2", [], refl, refl, refl))

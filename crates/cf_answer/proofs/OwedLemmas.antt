@@ -4,6 +4,7 @@ use Rattle.cf_gen.specs.Workload.{gen_source}
 use Rattle.cf_pass.specs.Passes.{Told}
 use Rattle.cf_target.specs.Spelling.{target_tree}
 use Rattle.cf_words.specs.Commands.{Command, compile, run, pre, check, exec, prove, verify, gen, help, version}
+use Rattle.cf_answer.specs.Forms.{form_of}
 use Rattle.cf_answer.specs.Owed.{Owes}
 use Rattle.cf_answer.specs.Passes.{applied}
 use Rattle.cf_answer.specs.Refusals.{Refuses, IsAccepted}
@@ -33,7 +34,7 @@ pub owed_accepted : (command : Command) (files : List (List ℕ)) (given passes 
     IsAccepted command files
 owed_accepted (compile flags name) (file ∷ []) given passes ls text h =
     λ f r. compiled_unrefused (applied (not flags.plain) given) (applied (not flags.plain) passes) file h.0 f h.1.0 r
-owed_accepted (run flags form name) (file ∷ []) given passes ls text h = λ f r. run_unrefused (not flags.plain) file given passes ls text f h r
+owed_accepted (run flags form name) (file ∷ []) given passes ls text h = λ f r. run_unrefused (not flags.plain) (form_of form h.0) file given passes ls text f h.2 r
 owed_accepted (pre name) (file ∷ []) given passes ls text h = λ f r. pres_unrefused file h.0 text f h.1 h.2 r
 owed_accepted (check name) (file ∷ []) given passes ls text h = λ f r. checks_unrefused file h.0 h.2 text f h.3 h.4 r
 owed_accepted (exec form name) (file ∷ []) given passes ls text h = λ f r. typed_unrefused file (target_tree h.0) f h.1 r

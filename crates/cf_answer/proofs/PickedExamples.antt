@@ -9,8 +9,9 @@ use Rattle.cf_tree.specs.declared.target.RawTarget.{RawTarget}
 use Rattle.cf_tree.specs.ExprTree.{expr_binary, expr_card, expr_var}
 use Rattle.cf_tree.specs.Values.{Value, number, values, no_solution}
 use Rattle.cf_program.specs.Checked.{TypedTree}
+use Rattle.cf_late.specs.Texts.{late_text}
 use Rattle.cf_answer.specs.Owed.{sum_line, IsSum}
-use Rattle.cf_answer.specs.Picked.{main_bases, main_picks, picked_text, outcome_number}
+use Rattle.cf_answer.specs.Picked.{main_bases, main_picks, picked_outcome, outcome_number}
 
 abbrev param : Base → Param
 param b = record { place = record { line = 1; column = 1 }; name = codes "a"; base = b }
@@ -34,7 +35,7 @@ square_of_three = refl
 abbrev root : Value
 root = number (pos 18446744073709551616)
 
-square_past : picked_text (main_picks squares (root ∷ [])) ≡ codes "overflow"
+square_past : late_text (picked_outcome (main_picks squares (root ∷ []))) ≡ codes "overflow"
 square_past = refl
 
 -- what is picked adds its number; overflow, no solution and several values add nothing

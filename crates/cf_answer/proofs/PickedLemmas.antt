@@ -1,5 +1,5 @@
 -- The replies of the target that a source is compiled to are what the source picks.
-use Rattle.std.proofs.Common.{◌≡◌, ◌∙◌, sym, ap, subst, refl, ℕ, zero, suc, ◌-◌, ◌^◌, ◌<◌, ◌≤◌, length, ◌⊎◌, ℤ, pos, ◌+ℤ◌, codes, List, [], ◌∷◌, map, get_or, slice_get, Option, Some, None, inl, inr, arith}
+use Rattle.std.proofs.Common.{◌≡◌, ◌∙◌, sym, ap, subst, refl, ℕ, zero, suc, ◌-◌, ◌^◌, ◌<◌, ◌≤◌, length, ◌⊎◌, ℤ, pos, ◌+ℤ◌, codes, Bool, true, false, List, [], ◌∷◌, map, get_or, slice_get, Option, Some, None, inl, inr, arith}
 use Rattle.cf_num.specs.Limit.{limit, IsWithin}
 use Rattle.cf_io.specs.Limits.{line_limit}
 use Rattle.cf_lex.specs.Digits.{digits_value}
@@ -18,18 +18,20 @@ use Rattle.cf_tree.specs.Params.{bases_of}
 use Rattle.cf_shift.specs.Meeting.{AreSmall}
 use Rattle.cf_build.specs.Built.{IsBuilt, SourceAllows}
 use Rattle.cf_build.specs.Runs.{RunsAsPicked}
-use Rattle.cf_eval.specs.Replies.{meaning_text, IsReply, too_long, bad_input, meaning}
 use Rattle.cf_eval.specs.Spelling.{without_return, IsNumber, IsValue, Spells, SpellsValues}
-use Rattle.cf_eval.specs.Texts.{outcome_text}
+use Rattle.cf_late.specs.ChooseRun.{comes_to, overflow, solve_run}
+use Rattle.cf_late.specs.Texts.{late_text}
 use Rattle.cf_eval.specs.Answers.{Answers}
 use Rattle.cf_eval.specs.Seen.{plains}
 use Rattle.cf_eval.specs.declared.value.Outcome.{Outcome as RunOutcome}
 use Rattle.cf_eval.specs.declared.value.Outcome.TheVariants.{Values, NoSolution, Overflow}
-use Rattle.cf_answer.specs.Owed.{by_target, IsReplyBy, AllReplied, AreReplies, ArePicked, IsSum}
-use Rattle.cf_answer.specs.Picked.{main_bases, main_picks, picked_text, IsSourceReply, too_long as source_too_long, bad_input as source_bad_input, picks, allows, outcome_number, adds}
+use Rattle.cf_answer.specs.Forms.{Wording, as_text, Form, IsKeyed, too_long as key_too_long, no_key, keyed, ByKey, InForm}
+use Rattle.cf_answer.specs.Owed.{by_target, IsReplyBy, IsReplyOf, AllReplied, AreReplies, ArePicked, IsSum}
+use Rattle.cf_answer.specs.Picked.{main_bases, main_picks, picked_outcome, IsSourceReply, too_long as source_too_long, bad_input as source_bad_input, picks, allows, outcome_number, adds}
+use Rattle.cf_answer.specs.Replies.{too_long, bad_input, comes}
 use Rattle.cf_answer.specs.Sources.{Compiles}
 use Rattle.cf_answer.specs.Steps.{run_number, LineAdds, long_line, odd_line, read_line, AddUp}
-use Rattle.cf_answer.proofs.ReplyLemmas.{within_text, overflow_text}
+use Rattle.cf_answer.proofs.OutcomeLemmas.{within_run, past_run}
 use Rattle.cf_answer.proofs.SpelledLemmas.{neg_within, none_within}
 
 -- what a line spells has its bases and is small
@@ -68,11 +70,15 @@ parameters_at (c ∷ ds) (suc i) d e = parameters_at ds i d e
 same_parameters : (typed : TypedTree) (given last : List Told) (t : RawTarget) → IsBuilt typed.defs typed.main given last t → t.params.items ≡ main_bases typed
 same_parameters typed given last t h = let like = h.like_main in like.2 ∙ sym (parameters_at typed.defs typed.main like.0 like.1)
 
--- the text of what is picked is that of the meaning
-picked_text_of : (typed : TypedTree) (passes : ℕ) (t : RawTarget) (vs : List Value) (o : Outcome) → main_picks typed vs ≡ Some o →
-    RunsAsPicked typed.defs typed.main passes (code_tree t.code) vs → picked_text (Some o) ≡ meaning_text (2 ^ 127 - 1) t vs
-picked_text_of typed passes t vs o e h =
-    let runs = h.outcome o e in within_text (2 ^ 127 - 1) t vs (outcome_text o) runs.0 (ap outcome_text (sym runs.1))
+-- what a target comes to is what is picked
+picked_of : (typed : TypedTree) (passes : ℕ) (t : RawTarget) (vs : List Value) (o : Outcome) → main_picks typed vs ≡ Some o →
+    RunsAsPicked typed.defs typed.main passes (code_tree t.code) vs → picked_outcome (main_picks typed vs) ≡ solve_run (code_tree t.code) vs
+picked_of typed passes t vs o e h =
+    let runs = h.outcome o e in ap picked_outcome e ∙ sym (within_run (code_tree t.code) vs o runs.0 runs.1)
+
+picked_past : (typed : TypedTree) (t : RawTarget) (vs : List Value) → main_picks typed vs ≡ None → limit < peak (code_tree t.code) vs →
+    picked_outcome (main_picks typed vs) ≡ solve_run (code_tree t.code) vs
+picked_past typed t vs e past = ap picked_outcome e ∙ sym (past_run (code_tree t.code) vs past)
 
 -- what is known of values that a line spells
 record Read (typed : TypedTree) (passes : ℕ) (t : RawTarget) (line : List ℕ) (vs : List Value) : Type 0 where
@@ -83,33 +89,33 @@ record Read (typed : TypedTree) (passes : ℕ) (t : RawTarget) (line : List ℕ)
   runs : RunsAsPicked typed.defs typed.main passes (code_tree t.code) vs
 
 -- main picks overflow: the target overflows, or it has an outcome that is allowed, and there are passes
-overflows : (typed : TypedTree) (passes : ℕ) (t : RawTarget) (line : List ℕ) (vs : List Value) → main_picks typed vs ≡ None → Read typed passes t line vs →
-    (limit < peak (code_tree t.code) vs) ⊎ (peak (code_tree t.code) vs ≤ limit) → IsSourceReply typed passes line (meaning_text (2 ^ 127 - 1) t vs)
-overflows typed passes t line vs e r (inl past) =
-    subst (IsSourceReply typed passes line) (ap picked_text e ∙ overflow_text (2 ^ 127 - 1) t vs past) (picks vs r.short r.spelled (λ _. r.runs.near past))
-overflows typed passes t line vs e r (inr within) =
-    subst (IsSourceReply typed passes line) (within_text (2 ^ 127 - 1) t vs (outcome_text (means (code_tree t.code) vs)) within refl)
+overflows : (w : Wording) (typed : TypedTree) (passes : ℕ) (t : RawTarget) (line : List ℕ) (vs : List Value) → main_picks typed vs ≡ None →
+    Read typed passes t line vs → (limit < peak (code_tree t.code) vs) ⊎ (peak (code_tree t.code) vs ≤ limit) →
+    IsSourceReply w typed passes line (w.told (solve_run (code_tree t.code) vs))
+overflows w typed passes t line vs e r (inl past) =
+    subst (λ o. IsSourceReply w typed passes line (w.told o)) (picked_past typed t vs e past) (picks vs r.short r.spelled (λ _. r.runs.near past))
+overflows w typed passes t line vs e r (inr within) =
+    subst (λ o. IsSourceReply w typed passes line (w.told o)) (sym (within_run (code_tree t.code) vs (means (code_tree t.code) vs) within refl))
     (allows vs (means (code_tree t.code) vs) r.short r.spelled e (some_pass passes (λ none. r.runs.overflow none e)) r.allowed)
   where
     some_pass : (n : ℕ) → (n ≡ 0 → limit < peak (code_tree t.code) vs) → 1 ≤ n
     some_pass zero h = absurd (omega (arith, within, h refl))
     some_pass (suc n) h = omega arith
 
-reply_to : (typed : TypedTree) (passes : ℕ) (t : RawTarget) (line : List ℕ) (vs : List Value) (p : Option Outcome) → main_picks typed vs ≡ p →
-    Read typed passes t line vs →
-    IsSourceReply typed passes line (meaning_text (2 ^ 127 - 1) t vs)
-reply_to typed passes t line vs (Some o) e r =
-    subst (IsSourceReply typed passes line) (ap picked_text e ∙ picked_text_of typed passes t vs o e r.runs) (picks vs r.short r.spelled (λ none. cc))
-reply_to typed passes t line vs None e r = overflows typed passes t line vs e r (cases_lt limit (peak (code_tree t.code) vs))
+reply_to : (w : Wording) (typed : TypedTree) (passes : ℕ) (t : RawTarget) (line : List ℕ) (vs : List Value) (p : Option Outcome) → main_picks typed vs ≡ p →
+    Read typed passes t line vs → IsSourceReply w typed passes line (w.told (solve_run (code_tree t.code) vs))
+reply_to w typed passes t line vs (Some o) e r =
+    subst (λ o. IsSourceReply w typed passes line (w.told o)) (picked_of typed passes t vs o e r.runs) (picks vs r.short r.spelled (λ none. cc))
+reply_to w typed passes t line vs None e r = overflows w typed passes t line vs e r (cases_lt limit (peak (code_tree t.code) vs))
 
-picked_reply : (typed : TypedTree) (given last : List Told) (t : RawTarget) → IsBuilt typed.defs typed.main given last t → (line reply : List ℕ) →
-    IsReply line_limit (2 ^ 127 - 1) t line reply → IsSourceReply typed (length last) line reply
-picked_reply typed given last t h line reply (too_long long) = source_too_long long
-picked_reply typed given last t h line reply (bad_input short none) =
+picked_reply : (w : Wording) (typed : TypedTree) (given last : List Told) (t : RawTarget) → IsBuilt typed.defs typed.main given last t → (line reply : List ℕ) →
+    IsReplyBy w (by_target t) line reply → IsSourceReply w typed (length last) line reply
+picked_reply w typed given last t h line reply (too_long long) = source_too_long long
+picked_reply w typed given last t h line reply (bad_input short none) =
     source_bad_input short (λ vs r. none vs (subst (λ bs. SpellsValues limit bs line vs) (sym (same_parameters typed given last t h)) r))
-picked_reply typed given last t h line reply (meaning vs short r) =
+picked_reply w typed given last t h line reply (comes vs short r) =
     let fit = values_fit t.params.items (without_return line) vs r in
-    reply_to typed (length last) t line vs (main_picks typed vs) refl (record {
+    reply_to w typed (length last) t line vs (main_picks typed vs) refl (record {
       short = short;
       spelled = subst (λ bs. SpellsValues limit bs line vs) (same_parameters typed given last t h) r;
       asked = r;
@@ -117,22 +123,39 @@ picked_reply typed given last t h line reply (meaning vs short r) =
       runs = h.runs vs fit.0 fit.1;
     })
 
+-- the same in a form
+keyed_too : (w : Wording) (P Q : List ℕ → List ℕ → Type 0) → ((line reply : List ℕ) → P line reply → Q line reply) → (line reply : List ℕ) →
+    IsKeyed w P line reply → IsKeyed w Q line reply
+keyed_too w P Q by line reply (key_too_long long) = key_too_long long
+keyed_too w P Q by line reply (no_key short none) = no_key short none
+keyed_too w P Q by line reply (keyed key rest own short whole all is) = keyed key rest own short whole all (by rest own is)
+
+pub by_key_too : (key : Bool) (w : Wording) (P Q : List ℕ → List ℕ → Type 0) → ((line reply : List ℕ) → P line reply → Q line reply) → (line reply : List ℕ) →
+    ByKey key w P line reply → ByKey key w Q line reply
+by_key_too false w P Q by line reply h = by line reply h
+by_key_too true w P Q by line reply h = keyed_too w P Q by line reply h
+
 -- the same of all lines
-all_replied : (P Q : List ℕ → List ℕ → Type 0) → ((line reply : List ℕ) → P line reply → Q line reply) → (ls : List (List ℕ)) (text : List ℕ) →
+pub all_replied : (P Q : List ℕ → List ℕ → Type 0) → ((line reply : List ℕ) → P line reply → Q line reply) → (ls : List (List ℕ)) (text : List ℕ) →
     AllReplied P ls text → AllReplied Q ls text
 all_replied P Q by [] text h = h
 all_replied P Q by (line ∷ ls) text h = (h.0, h.1, h.2, by line h.0 h.3, all_replied P Q by ls h.1 h.4)
 
-pub replies_picked : (given last : List Told) (file : List ℕ) (t : RawTarget) (ls : List (List ℕ)) (text : List ℕ) → Compiles given last file t →
-    AreReplies (by_target t) ls text → ArePicked (length last) file ls text
-replies_picked given last file t ls text h replies =
-    (h.0, h.1, all_replied (IsReplyBy (by_target t)) (IsSourceReply h.0 (length last)) (picked_reply h.0 given last t h.2) ls text replies)
+pub replies_picked : (form : Form) (given last : List Told) (file : List ℕ) (t : RawTarget) (ls : List (List ℕ)) (text : List ℕ) → Compiles given last file t →
+    AreReplies (record { by = by_target t; form = form }) ls text → ArePicked form (length last) file ls text
+replies_picked form given last file t ls text h replies =
+    let w = form.wording in (
+      h.0,
+      h.1,
+      all_replied (IsReplyOf (record { by = by_target t; form = form })) (InForm form (λ v. IsSourceReply v h.0 (length last)))
+          (by_key_too form.key w (IsReplyBy w (by_target t)) (IsSourceReply w h.0 (length last)) (picked_reply w h.0 given last t h.2)) ls text replies,
+    )
 
 -- what a run adds is what the reply of the target to the line adds, which the source picks
 record Added (typed : TypedTree) (passes : ℕ) (t : RawTarget) (line : List ℕ) (z : ℤ) : Type 0 where
   reply : List ℕ
-  replied : IsReplyBy (by_target t) line reply
-  told : IsSourceReply typed passes line reply
+  replied : IsReplyBy as_text (by_target t) line reply
+  told : IsSourceReply as_text typed passes line reply
   same : z ≡ adds typed passes line reply told
 
 never_both : {A : Type 0} (most high : ℕ) → most < high → high ≤ most → A
@@ -142,17 +165,17 @@ passes_of : (passes most high : ℕ) → high ≤ most → (passes ≡ 0 → mos
 passes_of zero most high within past = never_both most high (past refl) within
 passes_of (suc n) most high within past = omega arith
 
--- the text of what the target means is its reply
-means_reply : (typed : TypedTree) (passes : ℕ) (t : RawTarget) (line : List ℕ) (vs : List Value) (text : List ℕ) → Read typed passes t line vs →
-    text ≡ meaning_text (2 ^ 127 - 1) t vs → IsReplyBy (by_target t) line text
-means_reply typed passes t line vs text r is = subst (IsReply line_limit (2 ^ 127 - 1) t line) (sym is) (meaning vs r.short r.asked)
+-- the text of what the target comes to is its reply
+comes_reply : (typed : TypedTree) (passes : ℕ) (t : RawTarget) (line : List ℕ) (vs : List Value) (text : List ℕ) → Read typed passes t line vs →
+    text ≡ late_text (solve_run (code_tree t.code) vs) → IsReplyBy as_text (by_target t) line text
+comes_reply typed passes t line vs text r is = subst (IsReplyBy as_text (by_target t) line) (sym is) (comes vs r.short r.asked)
 
 -- main picks an outcome
 some_added : (typed : TypedTree) (passes : ℕ) (t : RawTarget) (line : List ℕ) (vs : List Value) (o : Outcome) → main_picks typed vs ≡ Some o →
     Read typed passes t line vs → Added typed passes t line (outcome_number (Some o))
 some_added typed passes t line vs o e r = record {
-  reply = picked_text (main_picks typed vs);
-  replied = means_reply typed passes t line vs (picked_text (main_picks typed vs)) r (ap picked_text e ∙ picked_text_of typed passes t vs o e r.runs);
+  reply = late_text (picked_outcome (main_picks typed vs));
+  replied = comes_reply typed passes t line vs (late_text (picked_outcome (main_picks typed vs))) r (ap late_text (picked_of typed passes t vs o e r.runs));
   told = picks vs r.short r.spelled (λ none. cc);
   same = ap outcome_number (sym e);
 }
@@ -161,8 +184,8 @@ some_added typed passes t line vs o e r = record {
 past_added : (typed : TypedTree) (passes : ℕ) (t : RawTarget) (line : List ℕ) (vs : List Value) → main_picks typed vs ≡ None → Read typed passes t line vs →
     limit < peak (code_tree t.code) vs → Added typed passes t line (pos 0)
 past_added typed passes t line vs e r past = record {
-  reply = picked_text (main_picks typed vs);
-  replied = means_reply typed passes t line vs (picked_text (main_picks typed vs)) r (ap picked_text e ∙ overflow_text (2 ^ 127 - 1) t vs past);
+  reply = late_text (picked_outcome (main_picks typed vs));
+  replied = comes_reply typed passes t line vs (late_text (picked_outcome (main_picks typed vs))) r (ap late_text (picked_past typed t vs e past));
   told = picks vs r.short r.spelled (λ _. r.runs.near past);
   same = ap outcome_number (sym e);
 }
@@ -171,9 +194,9 @@ past_added typed passes t line vs e r past = record {
 within_added : (typed : TypedTree) (passes : ℕ) (t : RawTarget) (line : List ℕ) (vs : List Value) → main_picks typed vs ≡ None →
     Read typed passes t line vs → peak (code_tree t.code) vs ≤ limit → Added typed passes t line (outcome_number (Some (means (code_tree t.code) vs)))
 within_added typed passes t line vs e r within = record {
-  reply = outcome_text (means (code_tree t.code) vs);
-  replied = means_reply typed passes t line vs (outcome_text (means (code_tree t.code) vs)) r
-      (within_text (2 ^ 127 - 1) t vs (outcome_text (means (code_tree t.code) vs)) within refl);
+  reply = late_text (comes_to (means (code_tree t.code) vs));
+  replied = comes_reply typed passes t line vs (late_text (comes_to (means (code_tree t.code) vs))) r
+      (ap late_text (sym (within_run (code_tree t.code) vs (means (code_tree t.code) vs) within refl)));
   told = allows vs (means (code_tree t.code) vs) r.short r.spelled e
       (passes_of passes limit (peak (code_tree t.code) vs) within (λ none. r.runs.overflow none e)) r.allowed;
   same = refl;

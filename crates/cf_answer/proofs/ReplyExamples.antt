@@ -16,8 +16,9 @@ use Rattle.cf_growth.specs.Overflowing.{MayOverflow}
 use Rattle.cf_build.specs.Runs.{lowered_bodies}
 use Rattle.cf_eval.specs.Spelling.{is_space, IsNumber, SpellsValues}
 use Rattle.cf_eval.specs.Texts.{outcome_text}
+use Rattle.cf_answer.specs.Forms.{as_text}
 use Rattle.cf_answer.specs.Owed.{by_target, IsReplyBy, IsSum}
-use Rattle.cf_answer.specs.Picked.{IsSourceReply, too_long, bad_input, picks, allows, main_bases, main_picks, picked_text, adds}
+use Rattle.cf_answer.specs.Picked.{IsSourceReply, too_long, bad_input, picks, allows, main_bases, main_picks, picked_outcome, adds}
 
 -- def main(a: int): int = a * a
 abbrev squares : TypedTree
@@ -101,15 +102,15 @@ x-short = omega arith
 three-picked : main_picks squares three ≡ None → MayOverflow (lowered_bodies squares.defs) squares.main three
 three-picked e = absurd (cc)
 
-nine : picked_text (main_picks squares three) ≡ codes "9"
+nine : as_text.told (picked_outcome (main_picks squares three)) ≡ codes "9"
 unfolding digits
 nine = refl
 
-reply-nine : IsSourceReply squares 0 (codes "3") (codes "9")
-reply-nine = subst (IsSourceReply squares 0 (codes "3")) nine (picks three three-short three-spelled three-picked)
+reply-nine : IsSourceReply as_text squares 0 (codes "3") (codes "9")
+reply-nine = subst (IsSourceReply as_text squares 0 (codes "3")) nine (picks three three-short three-spelled three-picked)
 
 -- 2^64 times 2^64 passes the limit, as the near path tells
-reply-overflow : IsSourceReply squares 0 root_line (codes "overflow")
+reply-overflow : IsSourceReply as_text squares 0 root_line (codes "overflow")
 reply-overflow = picks root root-short root-spelled (λ e. inr (root, refl, inr (root, refl, omega arith)))
 
 -- behind a pass what is allowed may stand there
@@ -120,19 +121,19 @@ square-text : outcome_text (values square) ≡ codes "34028236692093846346337460
 unfolding digits
 square-text = refl
 
-reply-behind_a_pass : IsSourceReply squares 1 root_line (codes "340282366920938463463374607431768211456")
-reply-behind_a_pass = subst (IsSourceReply squares 1 root_line) square-text
+reply-behind_a_pass : IsSourceReply as_text squares 1 root_line (codes "340282366920938463463374607431768211456")
+reply-behind_a_pass = subst (IsSourceReply as_text squares 1 root_line) square-text
     (allows root (values square) root-short root-spelled refl (omega arith) (goes_on root refl (goes_on root refl refl)))
 
-reply-bad_input : IsSourceReply squares 0 (codes "x") (codes "bad input")
+reply-bad_input : IsSourceReply as_text squares 0 (codes "x") (codes "bad input")
 reply-bad_input = bad_input x-short x-unspelled
 
-reply-too_long : (line : List ℕ) → 65536 < length line → IsSourceReply squares 0 line (codes "line too long")
+reply-too_long : (line : List ℕ) → 65536 < length line → IsSourceReply as_text squares 0 line (codes "line too long")
 unfolding line_limit
 reply-too_long line l = too_long l
 
 -- ---- what a reply adds
-nine-adds : adds squares 0 (codes "3") (picked_text (main_picks squares three)) (picks three three-short three-spelled three-picked) ≡ pos 9
+nine-adds : adds squares 0 (codes "3") (as_text.told (picked_outcome (main_picks squares three))) (picks three three-short three-spelled three-picked) ≡ pos 9
 nine-adds = refl
 
 overflow-adds_nothing : adds squares 0 root_line (codes "overflow") reply-overflow ≡ pos 0
@@ -149,10 +150,10 @@ bad-adds_nothing : adds squares 0 (codes "x") (codes "bad input") (bad_input x-s
 bad-adds_nothing = refl
 
 -- the sum of a line that is read and one that is not
-nine-and_nothing : (t : RawTarget) → IsReplyBy (by_target t) (codes "3") (picked_text (main_picks squares three)) →
-    IsReplyBy (by_target t) (codes "x") (codes "bad input") → IsSum t squares 0 (codes "3" ∷ codes "x" ∷ []) (pos 9)
+nine-and_nothing : (t : RawTarget) → IsReplyBy as_text (by_target t) (codes "3") (as_text.told (picked_outcome (main_picks squares three))) →
+    IsReplyBy as_text (by_target t) (codes "x") (codes "bad input") → IsSum t squares 0 (codes "3" ∷ codes "x" ∷ []) (pos 9)
 nine-and_nothing t h k = (
-  picked_text (main_picks squares three),
+  as_text.told (picked_outcome (main_picks squares three)),
   h,
   picks three three-short three-spelled three-picked,
   pos 0,
@@ -161,5 +162,5 @@ nine-and_nothing t h k = (
 )
 
 -- what is added up are replies of this target
-sum-of_replies : (t : RawTarget) (sum : ℤ) → IsSum t squares 0 (codes "3" ∷ []) sum → (reply : List ℕ) × IsReplyBy (by_target t) (codes "3") reply
+sum-of_replies : (t : RawTarget) (sum : ℤ) → IsSum t squares 0 (codes "3" ∷ []) sum → (reply : List ℕ) × IsReplyBy as_text (by_target t) (codes "3") reply
 sum-of_replies t sum h = (h.0, h.1)

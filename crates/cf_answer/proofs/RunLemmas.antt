@@ -21,6 +21,7 @@ use Rattle.cf_build.specs.declared.fault.BuildFault.TheVariants as build
 use Rattle.cf_eval.specs.Spelling.{without_return}
 use Rattle.cf_pass.specs.Passes.{Told, HaveTurned}
 use Rattle.cf_late.proofs.AllowedLaws.{late_runs_are_allowed}
+use Rattle.cf_answer.specs.Forms.{Form}
 use Rattle.cf_answer.specs.LateReplies.{AreRunsAllowed}
 use Rattle.cf_answer.specs.Limits.{of_source}
 use Rattle.cf_answer.specs.Owed.{by_target, by_late, ArePicked, OwesRun, compiled, late}
@@ -29,8 +30,8 @@ use Rattle.cf_answer.specs.Picked.{main_bases}
 use Rattle.cf_answer.specs.Refusals.{fault_of, bad_tree, IsBroken, broken, wide, IsBadProgram, unruly, refused, IsBadRun, bad, broken_late, IsRefusedRun}
 use Rattle.cf_answer.specs.Sources.{SpellsProgram, IsTypedBy, IsTypedSource, IsCheckedLate, Compiles}
 use Rattle.cf_answer.specs.Statuses.{fault_status}
-use Rattle.cf_answer.specs.Steps.{IsVerdict, IsRunner, answerer_of}
-use Rattle.cf_answer.specs.declared.answerer.Answerer.{Answerer as DeclaredAnswerer}
+use Rattle.cf_answer.specs.Steps.{IsVerdict, IsRunner, IsNamedRunner}
+use Rattle.cf_answer.specs.declared.answerer.Runner.{Runner as DeclaredRunner}
 use Rattle.cf_answer.specs.declared.fault.Fault.{Fault}
 use Rattle.cf_answer.specs.declared.fault.Fault.TheVariants as fault
 use Rattle.cf_answer.proofs.CauseLemmas.{alike, unrefused}
@@ -74,13 +75,13 @@ pub late_run_kept : (edition : Edition) (program : List RawItemTree) (typed : Ty
 late_run_kept edition program typed c f (bad g b n) = only_late edition program c.0 g c.1 b n
 late_run_kept edition program typed c f (broken_late p e plain h) = typed_never_broken edition Late program typed f c.2 h
 
-pub run_unrefused : (calls : Bool) (source : List ℕ) (given last : List Told) (ls : List (List ℕ)) (text : List ℕ) (f : Fault) →
-    OwesRun calls source given last ls text → IsRefusedRun source f → ⊥
-run_unrefused calls source given last ls text f (compiled t (c, turned) replies picked) r =
+pub run_unrefused : (calls : Bool) (form : Form) (source : List ℕ) (given last : List Told) (ls : List (List ℕ)) (text : List ℕ) (f : Fault) →
+    OwesRun calls form source given last ls text → IsRefusedRun source f → ⊥
+run_unrefused calls form source given last ls text f (compiled t (c, turned) replies picked) r =
     unrefused (of_source (edition_of source)) (IsProgram (edition_of source)) (program_of (edition_of source) 200) (IsBadRun (edition_of source))
     (one_program source)
     source f c.1.0 (built_run (edition_of source) c.1.0 c.0 (applied calls given) (applied calls last) t c.1.2 c.2) r c.1.1
-run_unrefused calls source given last ls text f (late typed s replies allowed same) r =
+run_unrefused calls form source given last ls text f (late typed s replies allowed same) r =
     unrefused (of_source (edition_of source)) (IsProgram (edition_of source)) (program_of (edition_of source) 200) (IsBadRun (edition_of source))
     (one_program source)
     source f s.0 (late_run_kept (edition_of source) s.0 typed s.2) r s.1
@@ -93,7 +94,7 @@ pub target_runs : (edition : Edition) (text : List ℕ) (program : List RawItemT
     IsBuilt typed.defs typed.main given last t → IsRunner true text given last (by_target t)
 target_runs edition text program typed t given last turned is s h built =
     let source : IsTypedSource text typed = (program, s, subst (λ e. IsTypedBy e Plain program typed) is h) in
-    λ ls replies r. compiled t ((typed, source, built), turned) r (replies_picked given last text t ls replies (typed, source, built) r)
+    λ form ls replies r. compiled t ((typed, source, built), turned) r (replies_picked form given last text t ls replies (typed, source, built) r)
 
 -- a late program
 runs_allowed : (edition : Edition) (program : List RawItemTree) (typed : TypedTree) → IsSpelledProgram edition program →
@@ -108,21 +109,20 @@ pub late_runs : (edition : Edition) (text : List ℕ) (program : List RawItemTre
     edition ≡ edition_of text → SpellsProgram text program → IsSpelledProgram edition program → checked edition Plain program ≡ Err (rule.NotLinear p) →
     IsTypedBy edition Late program typed → IsRunner calls text given given (by_late typed)
 late_runs edition text program typed p calls given is s numbers plain h =
-    λ ls replies r. late typed
+    λ form ls replies r. late typed
     (program, s, subst (λ e. IsCheckedLate e program typed) is (p, plain, h)) r (runs_allowed edition program typed numbers h) refl
 
 -- where no pass is called, all passes tell what they told
-owes_unpassed : (source : List ℕ) (last given : List Told) (ls : List (List ℕ)) (text : List ℕ) → OwesRun true source [] last ls text →
-    OwesRun false source given given ls text
-owes_unpassed source last given ls text (compiled t (c, turned) replies picked) =
+owes_unpassed : (form : Form) (source : List ℕ) (last given : List Told) (ls : List (List ℕ)) (text : List ℕ) → OwesRun true form source [] last ls text →
+    OwesRun false form source given given ls text
+owes_unpassed form source last given ls text (compiled t (c, turned) replies picked) =
     let none = still_none last turned in
-    compiled t (subst (λ ps. Compiles [] ps source t) none c, refl) replies (subst (λ ps. ArePicked (length ps) source ls text) none picked)
-owes_unpassed source last given ls text (late typed s replies allowed same) = late typed s replies allowed refl
+    compiled t (subst (λ ps. Compiles [] ps source t) none c, refl) replies (subst (λ ps. ArePicked form (length ps) source ls text) none picked)
+owes_unpassed form source last given ls text (late typed s replies allowed same) = late typed s replies allowed refl
 
-pub unpassed_verdict : (source : List ℕ) (last given : List Told) (r : Result DeclaredAnswerer Fault) →
-    IsVerdict (λ a. IsRunner true source [] last (answerer_of a)) (IsRefusedRun source) r →
-    IsVerdict (λ a. IsRunner false source given given (answerer_of a)) (IsRefusedRun source) r
-unpassed_verdict source last given (Ok a) v = λ ls text replies. owes_unpassed source last given ls text (v ls text replies)
+pub unpassed_verdict : (source : List ℕ) (last given : List Told) (r : Result DeclaredRunner Fault) →
+    IsVerdict (IsNamedRunner true source [] last) (IsRefusedRun source) r → IsVerdict (IsNamedRunner false source given given) (IsRefusedRun source) r
+unpassed_verdict source last given (Ok a) v = ((λ form ls text replies. owes_unpassed form source last given ls text (v.0 form ls text replies)), v.1)
 unpassed_verdict source last given (Err f) v = v
 
 -- ---- why it is refused

@@ -14,7 +14,7 @@ use Rattle.cf_io.proofs.FeedLemmas.{lines_told, told_within, told_whole, within_
 use Rattle.cf_io.proofs.LineLemmas.{ended-is, ended_from-append, lines-is, take_none, take-append}
 use Rattle.cf_answer.specs.Ends.{answered_lines}
 use Rattle.cf_answer.specs.Outside.{AreTold, one_past}
-use Rattle.cf_answer.specs.Owed.{Answerer}
+use Rattle.cf_answer.specs.Owed.{Replier}
 use Rattle.cf_answer.specs.Steps.{TookLines, TookSomeLines, TookSome, IsAnswered, IsOutFault, IsReadTo, Runs, RunsOn}
 use Rattle.cf_answer.specs.declared.fault.Fault.{Fault}
 use Rattle.cf_answer.specs.declared.fault.Fault.TheVariants as fault
@@ -56,7 +56,7 @@ within_nothing (Some most) = take_none most
 
 -- ---- pieces
 -- the lines of a piece were answered
-pub answered_more : (t : Answerer) (most : Option ℕ) (before behind : CutterState) (bytes piece : List ℕ) (none ls : List Line) (a b c : Option (List ℕ)) →
+pub answered_more : (t : Replier) (most : Option ℕ) (before behind : CutterState) (bytes piece : List ℕ) (none ls : List Line) (a b c : Option (List ℕ)) →
     IsAnswered t most before bytes a b →
     Stands line_limit most behind (bytes ++ piece) → none ≡ [] → ls ≡ none ++ new_lines line_limit most bytes piece → TookLines t ls b c →
     IsAnswered t most behind (bytes ++ piece) a c
@@ -68,7 +68,7 @@ answered_more t most before behind bytes piece none ls a b c h stands empty is t
 }
 
 -- some of them were
-pub answered_some : (t : Answerer) (most : Option ℕ) (before : CutterState) (bytes piece : List ℕ) (none ls : List Line) (a b c : Option (List ℕ)) →
+pub answered_some : (t : Replier) (most : Option ℕ) (before : CutterState) (bytes piece : List ℕ) (none ls : List Line) (a b c : Option (List ℕ)) →
     IsAnswered t most before bytes a b →
     none ≡ [] → ls ≡ none ++ new_lines line_limit most bytes piece → TookSomeLines t ls b c →
     TookSomeLines t (told line_limit most (bytes ++ piece)) a c
@@ -78,14 +78,14 @@ answered_some t most before bytes piece none ls a b c h empty is took =
     (subst (λ v. TookSomeLines t v b c) (is ∙ ap (λ v. v ++ new_lines line_limit most bytes piece) empty) took))
 
 -- none was
-pub answered_none : (t : Answerer) (most : Option ℕ) (before : CutterState) (bytes piece : List ℕ) (a b : Option (List ℕ)) →
+pub answered_none : (t : Replier) (most : Option ℕ) (before : CutterState) (bytes piece : List ℕ) (a b : Option (List ℕ)) →
     IsAnswered t most before bytes a b → TookSomeLines t (told line_limit most (bytes ++ piece)) a b
 answered_none t most before bytes piece a b h =
     answered_some t most before bytes piece [] (new_lines line_limit most bytes piece) a b b h refl refl
     (took_none t (new_lines line_limit most bytes piece) b)
 
 -- the last line was answered
-pub rest_all : (t : Answerer) (most : Option ℕ) (cutter : CutterState) (bytes : List ℕ) (none ls : List Line) (a b c : Option (List ℕ)) →
+pub rest_all : (t : Replier) (most : Option ℕ) (cutter : CutterState) (bytes : List ℕ) (none ls : List Line) (a b c : Option (List ℕ)) →
     IsAnswered t most cutter bytes a b → IsWithin most (length bytes) →
     none ≡ [] → ls ≡ none ++ map (line_of line_limit) (last_of (rest_of bytes)) → TookLines t ls b c → TookLines t (map (line_of line_limit) (lines bytes)) a c
 rest_all t most cutter bytes none ls a b c h few empty is took =
@@ -93,7 +93,7 @@ rest_all t most cutter bytes none ls a b c h few empty is took =
     (took_more t (told line_limit most bytes) (map (line_of line_limit) (last_of (rest_of bytes))) a b c h.took
     (subst (λ v. TookLines t v b c) (is ∙ ap (λ v. v ++ map (line_of line_limit) (last_of (rest_of bytes))) empty) took))
 
-pub rest_some : (t : Answerer) (most : Option ℕ) (cutter : CutterState) (bytes : List ℕ) (none ls : List Line) (a b c : Option (List ℕ)) →
+pub rest_some : (t : Replier) (most : Option ℕ) (cutter : CutterState) (bytes : List ℕ) (none ls : List Line) (a b c : Option (List ℕ)) →
     IsAnswered t most cutter bytes a b → IsWithin most (length bytes) →
     none ≡ [] → ls ≡ none ++ map (line_of line_limit) (last_of (rest_of bytes)) → TookSomeLines t ls b c →
     TookSomeLines t (map (line_of line_limit) (lines bytes)) a c
@@ -102,7 +102,7 @@ rest_some t most cutter bytes none ls a b c h few empty is took =
     (took_some_more t (told line_limit most bytes) (map (line_of line_limit) (last_of (rest_of bytes))) a b c h.took
     (subst (λ v. TookSomeLines t v b c) (is ∙ ap (λ v. v ++ map (line_of line_limit) (last_of (rest_of bytes))) empty) took))
 
-pub rest_none : (t : Answerer) (most : Option ℕ) (cutter : CutterState) (bytes : List ℕ) (a b : Option (List ℕ)) → IsAnswered t most cutter bytes a b →
+pub rest_none : (t : Replier) (most : Option ℕ) (cutter : CutterState) (bytes : List ℕ) (a b : Option (List ℕ)) → IsAnswered t most cutter bytes a b →
     IsWithin most (length bytes) → TookSomeLines t (map (line_of line_limit) (lines bytes)) a b
 rest_none t most cutter bytes a b h few = rest_some t most cutter bytes [] (map (line_of line_limit) (last_of (rest_of bytes))) a b b h few refl refl
     (took_none t (map (line_of line_limit) (last_of (rest_of bytes))) b)
@@ -111,7 +111,7 @@ rest_none t most cutter bytes a b h few = rest_some t most cutter bytes [] (map 
 told_none : (most : Option ℕ) → told line_limit most [] ≡ []
 told_none most = ap (λ s. map (line_of line_limit) (ended s)) (within_nothing most)
 
-pub read_none : (t : Answerer) (most : Option ℕ) (left : Option (List ℕ)) (cutter : CutterState) (held : Option (List ℕ)) → Stands line_limit most cutter [] →
+pub read_none : (t : Replier) (most : Option ℕ) (left : Option (List ℕ)) (cutter : CutterState) (held : Option (List ℕ)) → Stands line_limit most cutter [] →
     IsReadTo t most left left cutter held held 0
 read_none t most left cutter held stands = record {
   bytes = [];
@@ -121,7 +121,7 @@ read_none t most left cutter held stands = record {
 }
 
 -- one more piece
-pub read_more : (t : Answerer) (most : Option ℕ) (left mid still_left : Option (List ℕ)) (before behind : CutterState) (old now new : Option (List ℕ))
+pub read_more : (t : Replier) (most : Option ℕ) (left mid still_left : Option (List ℕ)) (before behind : CutterState) (old now new : Option (List ℕ))
     (total more : ℕ) (piece : List ℕ) → IsReadTo t most left mid before old now total →
     Consumes mid still_left piece → more ≡ total + length piece →
     ((bytes : List ℕ) → IsAnswered t most before bytes old now → IsAnswered t most behind (bytes ++ piece) old new) →
@@ -147,7 +147,7 @@ end_told None h = tt
 end_told (Some xs) h = h
 
 -- the source failed
-pub runs_input : (t : Answerer) (most : Option ℕ) (left mid still_left : Option (List ℕ)) (cutter : CutterState) (old new : Option (List ℕ)) (total : ℕ) →
+pub runs_input : (t : Replier) (most : Option ℕ) (left mid still_left : Option (List ℕ)) (cutter : CutterState) (old new : Option (List ℕ)) (total : ℕ) →
     IsReadTo t most left mid cutter old new total → IsWithin most total →
     Keeps mid still_left → RunsOn t most left still_left old new (Err fault.Input)
 runs_input t most left mid still_left cutter old new total r few keeps =
@@ -163,7 +163,7 @@ runs_input t most left mid still_left cutter old new total r few keeps =
     }
 
 -- more bytes came than the limit
-pub runs_long : (t : Answerer) (most : Option ℕ) (left still_left : Option (List ℕ)) (cutter : CutterState) (old new : Option (List ℕ)) (total : ℕ) →
+pub runs_long : (t : Replier) (most : Option ℕ) (left still_left : Option (List ℕ)) (cutter : CutterState) (old new : Option (List ℕ)) (total : ℕ) →
     IsReadTo t most left still_left cutter old new total → IsPast most total →
     IsWithin (one_past most) total → RunsOn t most left still_left old new (Err fault.InputTooLong)
 runs_long t most left still_left cutter old new total r many few = record {
@@ -207,14 +207,14 @@ pub answered_front : (most : Option ℕ) (front rest : List ℕ) →
     (more : List (List ℕ)) × (answered_lines most (front ++ rest) ≡ ended (within most front) ++ more)
 answered_front most front rest = answered_by most front rest (within_or_past most (length (front ++ rest)))
 
-runs_fault : (t : Answerer) (most : Option ℕ) (front rest : List ℕ) (left old new : Option (List ℕ)) (f : Fault) → IsOutFault f → AreTold left rest →
+runs_fault : (t : Replier) (most : Option ℕ) (front rest : List ℕ) (left old new : Option (List ℕ)) (f : Fault) → IsOutFault f → AreTold left rest →
     TookSome t (answered_lines most (front ++ rest)) old new →
     Runs t most front left old new (Err f)
 runs_fault t most front rest left old new f (inl e) told took = rw e (rest, told, took)
 runs_fault t most front rest left old new f (inr e) told took = rw e (rest, told, took)
 
 -- a reply was not written, or memory was wanted
-pub runs_stopped : (t : Answerer) (most : Option ℕ) (left mid still_left : Option (List ℕ)) (cutter : CutterState) (old now new : Option (List ℕ)) (total : ℕ)
+pub runs_stopped : (t : Replier) (most : Option ℕ) (left mid still_left : Option (List ℕ)) (cutter : CutterState) (old now new : Option (List ℕ)) (total : ℕ)
     (piece : List ℕ) (f : Fault) → IsReadTo t most left mid cutter old now total →
     Consumes mid still_left piece → IsWithin (one_past most) (total + length piece) → IsOutFault f →
     ((bytes : List ℕ) → IsAnswered t most cutter bytes old now → TookSomeLines t (told line_limit most (bytes ++ piece)) old new) →
@@ -230,14 +230,14 @@ runs_stopped t most left mid still_left cutter old now new total piece f r c few
     }
 
 -- no more pieces are counted
-pub runs_endless : (t : Answerer) (left still_left : Option (List ℕ)) (cutter : CutterState) (old new : Option (List ℕ)) (total : ℕ) →
+pub runs_endless : (t : Replier) (left still_left : Option (List ℕ)) (cutter : CutterState) (old new : Option (List ℕ)) (total : ℕ) →
     IsReadTo t None left still_left cutter old new total → RunsOn t None left still_left old new (Err fault.NoMemory)
 runs_endless t left still_left cutter old new total r =
     runs_stopped t None left still_left still_left cutter old new new total [] fault.NoMemory r (Consumes-nil still_left) tt (inr refl)
     (λ bytes h. answered_none t None cutter bytes [] old new h)
 
 -- the input was read to its end
-runs_ended : (t : Answerer) (most : Option ℕ) (front : List ℕ) (left old new : Option (List ℕ)) (answer : Result (Unit {0}) Fault) → IsAtEnd left →
+runs_ended : (t : Replier) (most : Option ℕ) (front : List ℕ) (left old new : Option (List ℕ)) (answer : Result (Unit {0}) Fault) → IsAtEnd left →
     IsWithin most (length front) →
     OnOk answer (TookLines t (map (line_of line_limit) (lines front)) old new) → TookSomeLines t (map (line_of line_limit) (lines front)) old new →
     IfErr answer IsOutFault → Runs t most front left old new answer
@@ -251,7 +251,7 @@ pub on_ok : {A B : Type 0} (answer : Result (Unit {0}) Fault) → OnOk answer A 
 on_ok (Ok done) a go = go a
 on_ok (Err f) a go = tt
 
-pub runs_end : (t : Answerer) (most : Option ℕ) (left mid still_left : Option (List ℕ)) (cutter : CutterState) (old now new : Option (List ℕ)) (total : ℕ)
+pub runs_end : (t : Replier) (most : Option ℕ) (left mid still_left : Option (List ℕ)) (cutter : CutterState) (old now new : Option (List ℕ)) (total : ℕ)
     (answer : Result (Unit {0}) Fault) → IsReadTo t most left mid cutter old now total → IsWithin most total →
     Consumes mid still_left [] → IsAtEnd still_left →
     OnOk answer ((limit : Option ℕ) (bytes : List ℕ) (first : Option (List ℕ)) → IsAnswered t limit cutter bytes first now → IsWithin limit (length bytes) →
@@ -269,7 +269,7 @@ runs_end t most left mid still_left cutter old now new total answer r few c end 
     }
 
 -- one more piece, however much was read before
-pub read_next : (t : Answerer) (mid still_left : Option (List ℕ)) (before behind : CutterState) (now new : Option (List ℕ)) (piece : List ℕ) (count : ℕ) →
+pub read_next : (t : Replier) (mid still_left : Option (List ℕ)) (before behind : CutterState) (now new : Option (List ℕ)) (piece : List ℕ) (count : ℕ) →
     Consumes mid still_left piece → length piece ≡ count →
     ((most : Option ℕ) (bytes : List ℕ) (first : Option (List ℕ)) → IsAnswered t most before bytes first now →
     IsAnswered t most behind (bytes ++ piece) first new) →
@@ -280,14 +280,14 @@ read_next t mid still_left before behind now new piece count c is go most left o
     (λ bytes h. go most bytes old h)
 
 -- nothing was read of what was to come
-pub failed_next : (t : Answerer) (mid still_left : Option (List ℕ)) (cutter : CutterState) (now : Option (List ℕ)) (room : ℕ) → 0 < room →
+pub failed_next : (t : Replier) (mid still_left : Option (List ℕ)) (cutter : CutterState) (now : Option (List ℕ)) (room : ℕ) → 0 < room →
     Keeps mid still_left → (most : Option ℕ) (left old : Option (List ℕ)) (total : ℕ) → IsReadTo t most left mid cutter old now total →
     IsWithin (one_past most) (total + room) → RunsOn t most left still_left old now (Err fault.Input)
 failed_next t mid still_left cutter now room some keeps most left old total r few =
     runs_input t most left mid still_left cutter old now total r (before_past most total room some few) keeps
 
 -- the lines of a piece were not all answered
-pub stopped_next : (t : Answerer) (mid still_left : Option (List ℕ)) (cutter : CutterState) (now new : Option (List ℕ)) (piece : List ℕ) (f : Fault) (room : ℕ)
+pub stopped_next : (t : Replier) (mid still_left : Option (List ℕ)) (cutter : CutterState) (now new : Option (List ℕ)) (piece : List ℕ) (f : Fault) (room : ℕ)
     → Consumes mid still_left piece → length piece ≤ room → IsOutFault f →
     ((most : Option ℕ) (bytes : List ℕ) (first : Option (List ℕ)) → IsAnswered t most cutter bytes first now →
     TookSomeLines t (told line_limit most (bytes ++ piece)) first new) →
@@ -299,7 +299,7 @@ stopped_next t mid still_left cutter now new piece f room c fits stops some most
     (less_within (one_past most) (total + length piece) (total + room) shorter few) stops (λ bytes h. some most bytes old h)
 
 -- nothing more came
-pub runs_rest : (t : Answerer) (most : Option ℕ) (left still_left : Option (List ℕ)) (cutter : CutterState) (old now new : Option (List ℕ)) (total : ℕ)
+pub runs_rest : (t : Replier) (most : Option ℕ) (left still_left : Option (List ℕ)) (cutter : CutterState) (old now new : Option (List ℕ)) (total : ℕ)
     (answer : Result (Unit {0}) Fault) → IsReadTo t most left still_left cutter old now total → IsWithin most total →
     IsAtEnd still_left →
     OnOk answer ((limit : Option ℕ) (bytes : List ℕ) (first : Option (List ℕ)) → IsAnswered t limit cutter bytes first now → IsWithin limit (length bytes) →
@@ -311,7 +311,7 @@ runs_rest t most left still_left cutter old now new total answer r few end all s
     runs_end t most left still_left still_left cutter old now new total answer r few (Consumes-nil still_left) end all some f
 
 -- what answering the lines of a piece did, by its answer
-pub piece_all : (t : Answerer) (before behind : CutterState) (piece : List ℕ) (none ls got : List Line) (b c : Option (List ℕ))
+pub piece_all : (t : Replier) (before behind : CutterState) (piece : List ℕ) (none ls got : List Line) (b c : Option (List ℕ))
     (answer : Result (Unit {0}) Fault) → OnOk answer (TookLines t got b c) → got ≡ ls → none ≡ [] →
     ((most : Option ℕ) (bytes : List ℕ) → Stands line_limit most before bytes → Stands line_limit most behind (bytes ++ piece)) →
     ((most : Option ℕ) (bytes : List ℕ) → Stands line_limit most before bytes → ls ≡ none ++ new_lines line_limit most bytes piece) →
@@ -322,7 +322,7 @@ piece_all t before behind piece none ls got b c (Ok done) took same empty stands
     (subst (λ v. TookLines t v b c) same took)
 piece_all t before behind piece none ls got b c (Err f) took same empty stands is = tt
 
-pub piece_some : (t : Answerer) (before : CutterState) (piece : List ℕ) (none ls got : List Line) (b c : Option (List ℕ)) (answer : Result (Unit {0}) Fault) →
+pub piece_some : (t : Replier) (before : CutterState) (piece : List ℕ) (none ls got : List Line) (b c : Option (List ℕ)) (answer : Result (Unit {0}) Fault) →
     TookSomeLines t got b c → got ≡ ls → none ≡ [] →
     ((most : Option ℕ) (bytes : List ℕ) → Stands line_limit most before bytes → ls ≡ none ++ new_lines line_limit most bytes piece) →
     OnErr answer ((most : Option ℕ) (bytes : List ℕ) (first : Option (List ℕ)) → IsAnswered t most before bytes first b →
@@ -333,7 +333,7 @@ piece_some t before piece none ls got b c (Err f) took same empty is =
     (subst (λ v. TookSomeLines t v b c) same took)
 
 -- the same of the last line
-pub last_all : (t : Answerer) (cutter : CutterState) (none ls got : List Line) (b c : Option (List ℕ)) (answer : Result (Unit {0}) Fault) →
+pub last_all : (t : Replier) (cutter : CutterState) (none ls got : List Line) (b c : Option (List ℕ)) (answer : Result (Unit {0}) Fault) →
     OnOk answer (TookLines t got b c) → got ≡ ls → none ≡ [] →
     ((most : Option ℕ) (bytes : List ℕ) → Stands line_limit most cutter bytes → ls ≡ none ++ map (line_of line_limit) (last_of (rest_of bytes))) →
     OnOk answer ((most : Option ℕ) (bytes : List ℕ) (first : Option (List ℕ)) → IsAnswered t most cutter bytes first b → IsWithin most (length bytes) →
@@ -342,7 +342,7 @@ last_all t cutter none ls got b c (Ok done) took same empty is =
     λ most bytes first h few. rest_all t most cutter bytes none ls first b c h few empty (is most bytes h.stands) (subst (λ v. TookLines t v b c) same took)
 last_all t cutter none ls got b c (Err f) took same empty is = tt
 
-pub last_some : (t : Answerer) (cutter : CutterState) (none ls got : List Line) (b c : Option (List ℕ)) → TookSomeLines t got b c → got ≡ ls → none ≡ [] →
+pub last_some : (t : Replier) (cutter : CutterState) (none ls got : List Line) (b c : Option (List ℕ)) → TookSomeLines t got b c → got ≡ ls → none ≡ [] →
     ((most : Option ℕ) (bytes : List ℕ) → Stands line_limit most cutter bytes → ls ≡ none ++ map (line_of line_limit) (last_of (rest_of bytes))) →
     (most : Option ℕ) (bytes : List ℕ) (first : Option (List ℕ)) → IsAnswered t most cutter bytes first b → IsWithin most (length bytes) →
     TookSomeLines t (map (line_of line_limit) (lines bytes)) first c

@@ -22,6 +22,7 @@ use Rattle.cf_eval.proofs.SpellLemmas.{Spells-again}
 use Rattle.cf_program.specs.Checked.{TypedTree}
 use Rattle.cf_gen.specs.Workload.{drawn, input_of, next_seed, seed, input, inputs, input_line, gen_lines, total, main_gives, gen_sum}
 use Rattle.cf_emit.proofs.Numerals.{AreDigitsOf, decimal_read}
+use Rattle.cf_answer.specs.Forms.{as_text}
 use Rattle.cf_answer.specs.Owed.{IsSum}
 use Rattle.cf_answer.specs.Picked.{main_bases, main_picks, IsSourceReply, too_long, bad_input, picks, allows, outcome_number, adds}
 
@@ -127,7 +128,7 @@ module _ (typed : TypedTree) (passes : ℕ) (takes : main_bases typed ≡ one In
   line_values a h vs s = spelled_once (one Int) (signed_decimal a) vs (number a ∷ []) (subst (λ bs. SpellsValues limit bs (signed_decimal a) vs) takes s)
       (spelled_line a h)
 
-  adds_it : (a : ℤ) → IsInput a → (reply : List ℕ) (is : IsSourceReply typed passes (signed_decimal a) reply) → adds typed passes (signed_decimal a) reply is
+  adds_it : (a : ℤ) → IsInput a → (reply : List ℕ) (is : IsSourceReply as_text typed passes (signed_decimal a) reply) → adds typed passes (signed_decimal a) reply is
       ≡ gives a
   adds_it a h reply (too_long long) = let s = short_line a h in absurd (omega arith)
   adds_it a h reply (bad_input short bad) = absurd (bad (number a ∷ []) (subst (λ bs. SpellsValues limit bs (signed_decimal a) (number a ∷ [])) (sym takes)

@@ -1,5 +1,5 @@
 -- How the commands agree with each other.
-use Rattle.std.specs.Prelude.{◌≤◌, ℕ, List, [], ◌∷◌, length}
+use Rattle.std.specs.Prelude.{◌≡◌, ◌≤◌, ℕ, false, not, List, [], ◌∷◌, length}
 use Rattle.cf_tree.specs.ChooseTree.{ChooseTree}
 use Rattle.cf_tree.specs.Solving.{HoldSomewhere}
 use Rattle.cf_tree.specs.Values.{Value, HaveBases}
@@ -16,8 +16,9 @@ use Rattle.cf_words.specs.Commands.{compile, run, exec, prove, verify}
 use Rattle.cf_words.specs.declared.command.Flags.{Flags}
 use Rattle.cf_words.specs.declared.command.ReplyForm.{ReplyForm}
 use Rattle.cf_lex.specs.Editions.{edition_of}
+use Rattle.cf_answer.specs.Forms.{form_of}
 use Rattle.cf_answer.specs.Limits.{of_target, most_of}
-use Rattle.cf_answer.specs.Owed.{IsPreOf, Owes}
+use Rattle.cf_answer.specs.Owed.{IsPreOf, OwesRun, Owes}
 use Rattle.cf_answer.specs.Refusals.{IsAccepted}
 
 -- `verify` accepts for a source what `prove` writes of it, unless that is longer than a text may be
@@ -26,21 +27,23 @@ ProvedIsVerified =
     (name other source : List ℕ) (given last : List Told) (ls : List (List ℕ)) (text : List ℕ) → Owes (prove name) (source ∷ []) given last ls text →
     length text ≤ most_of (of_target (edition_of source)) → (lines : List ℕ) × Owes (verify name other) (source ∷ text ∷ []) given last ls lines
 
--- `exec` accepts what `compile` prints of a source, unless that is longer than a text may be, and replies what `run` may reply with the same flags and the
--- same form of replies
-pub record Runs (flags : Flags) (form : ReplyForm) (name source : List ℕ) (given last : List Told) (text : List ℕ) : Type 0 where
-  pub accepted : IsAccepted (exec form name) (text ∷ [])
-  pub replies : (before behind : List Told) (ls : List (List ℕ)) (out : List ℕ) → Owes (exec form name) (text ∷ []) before behind ls out →
-      Owes (run flags form name) (source ∷ []) given last ls out
+-- `exec` accepts what `compile` prints of a source, unless that is longer than a text may be, and replies what `run` may reply with the same flags, by key or
+-- not. As JSON the results of a target have no names.
+pub record Runs (flags : Flags) (asked : ReplyForm) (name source : List ℕ) (given last : List Told) (text : List ℕ) : Type 0 where
+  pub accepted : IsAccepted (exec asked name) (text ∷ [])
+  pub replies : (before behind : List Told) (ls : List (List ℕ)) (out : List ℕ) → Owes (exec asked name) (text ∷ []) before behind ls out →
+      OwesRun (not flags.plain) (form_of asked []) source given last ls out
+  pub as_text : asked.jsonl ≡ false → (before behind : List Told) (ls : List (List ℕ)) (out : List ℕ) →
+      Owes (exec asked name) (text ∷ []) before behind ls out → Owes (run flags asked name) (source ∷ []) given last ls out
 
 abbrev pub CompiledIsRun : Type 0
 CompiledIsRun =
-    (flags : Flags) (form : ReplyForm) (name source : List ℕ) (given last : List Told) (ls : List (List ℕ)) (text : List ℕ) →
+    (flags : Flags) (asked : ReplyForm) (name source : List ℕ) (given last : List Told) (ls : List (List ℕ)) (text : List ℕ) →
     Owes (compile flags name) (source ∷ []) given last ls text → length text ≤ most_of (of_target (edition_of source)) →
-    Runs flags form name source given last text
+    Runs flags asked name source given last text
 
--- where `check` finds that there always are outputs, the needs that `pre` writes hold at each environment, and where it finds that there are none at a
--- sample, they hold at no environment of it
+-- where `check` finds that a relation always has outputs, the needs that `pre` writes of it hold at each environment, and where it finds that it has none at a
+-- sample, they hold at no environment of it; in edition 3 `check` may ask about another relation, which a condition and a branch have a part in
 abbrev pub NeedsAre : ChooseTree → ExistenceAnswer → Type 0
 NeedsAre q Always = (env : List Value) → HaveBases q.scope env → HoldSomewhere (all_needs (choose_arms q)) env
 NeedsAre q (Missing sample) = (env : List Value) → IsAt q.scope q.relation (plains sample.items) env → HoldSomewhere (all_needs (choose_arms q)) env → ⊥

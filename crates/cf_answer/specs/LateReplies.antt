@@ -1,27 +1,18 @@
--- The reply to a line by a late program, whose chooses are eliminated on the numbers of the line.
-use Rattle.std.specs.Prelude.{ℕ, ◌<◌, ◌≤◌, List, length, codes}
+-- What a late program comes to, whose chooses are eliminated on the numbers of a line.
+use Rattle.std.specs.Prelude.{ℕ, List}
 use Rattle.cf_num.specs.Limit.{limit}
-use Rattle.cf_io.specs.Limits.{line_limit}
 use Rattle.cf_tree.specs.Values.{Value}
 use Rattle.cf_program.specs.Checked.{TypedTree}
 use Rattle.cf_match.specs.Laws.{bodies}
 use Rattle.cf_eval.specs.Spelling.{SpellsValues}
 use Rattle.cf_late.specs.ChooseRun.{LateOutcome}
 use Rattle.cf_late.specs.LateRun.{late_run}
-use Rattle.cf_late.specs.Texts.{late_text}
 use Rattle.cf_late.specs.ProgramLaw.{IsAllowedIn}
 use Rattle.cf_answer.specs.Picked.{main_bases}
 
 -- what main comes to at these values
 abbrev pub main_comes : TypedTree → List Value → LateOutcome
 main_comes typed vs = late_run (bodies typed.defs) typed.main vs
-
--- the reply to a line: what main comes to at the values that the line spells
-pub data IsLateReply (typed : TypedTree) (line : List ℕ) : List ℕ → Type 0 where
-  too_long : line_limit < length line → IsLateReply typed line (codes "line too long")
-  bad_input : length line ≤ line_limit → ((vs : List Value) → SpellsValues limit (main_bases typed) line vs → ⊥) → IsLateReply typed line (codes "bad input")
-  comes : (vs : List Value) → length line ≤ line_limit → SpellsValues limit (main_bases typed) line vs →
-      IsLateReply typed line (late_text (main_comes typed vs))
 
 -- where main comes to an outcome at values that a line spells, the source allows it
 abbrev pub AreRunsAllowed : TypedTree → Type 0

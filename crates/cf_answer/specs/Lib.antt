@@ -6,6 +6,7 @@ pub mod Checking
 pub mod Checks
 pub mod Commands
 pub mod Ends
+pub mod Forms
 pub mod LateReplies
 pub mod Limits
 pub mod Lines
@@ -14,6 +15,8 @@ pub mod Owed
 pub mod Passes
 pub mod Picked
 pub mod Refusals
+pub mod Replies
+pub mod ResultNames
 pub mod Sources
 pub mod Statuses
 pub mod Steps

@@ -1,13 +1,15 @@
 -- What a command is to write, in all.
-use Rattle.std.specs.Prelude.{◌≡◌, ℕ, ◌-◌, ◌*◌, ◌^◌, ℤ, pos, ◌+ℤ◌, Bool, true, not, List, [], ◌∷◌, ◌++◌, length, flat_map, None, codes, decimal}
+use Rattle.std.specs.Prelude.{◌≡◌, ℕ, ◌*◌, ℤ, pos, ◌+ℤ◌, Bool, true, not, List, [], ◌∷◌, ◌++◌, length, flat_map, None, codes, decimal}
 use Rattle.std.specs.List.{concat}
 use Rattle.std.specs.Fmt.{signed_decimal}
 use Rattle.cf_gen.specs.Workload.{gen_source, gen_lines}
-use Rattle.cf_io.specs.Limits.{line_limit}
 use Rattle.cf_io.specs.Lines.{lines}
 use Rattle.cf_lex.specs.Editions.{edition_of}
 use Rattle.cf_tree.specs.declared.base.Edition.{Edition}
+use Rattle.cf_tree.specs.declared.base.Base.{Base}
 use Rattle.cf_tree.specs.declared.target.RawTarget.{RawTarget}
+use Rattle.cf_tree.specs.CodeView.{code_tree}
+use Rattle.cf_tree.specs.Values.{Value}
 use Rattle.cf_target.specs.Spelling.{target_tree}
 use Rattle.cf_program.specs.Checked.{TypedTree}
 use Rattle.cf_form.specs.Told.{ToldChoose}
@@ -17,17 +19,21 @@ use Rattle.cf_tree.specs.ChooseTree.{ChooseTree}
 use Rattle.cf_build.specs.Chooses.{all_chooses, by_number, limit_of, choose_arms}
 use Rattle.cf_emit.specs.Printed.{target_text, pre_text}
 use Rattle.cf_emit.specs.ReadsBack.{ReadsBack}
-use Rattle.cf_eval.specs.Replies.{IsReply}
+use Rattle.cf_late.specs.ChooseRun.{LateOutcome, solve_run}
 use Rattle.cf_pass.specs.Passes.{Told}
 use Rattle.cf_words.specs.Commands.{Command, compile, run, pre, check, exec, prove, verify, gen, help, version}
+use Rattle.cf_words.specs.declared.command.ReplyForm.{ReplyForm}
 use Rattle.cf_answer.specs.About.{help_text, version_text}
 use Rattle.cf_form.specs.Branches.{Branch}
 use Rattle.cf_answer.specs.Branches.{AreBranched, valued}
 use Rattle.cf_answer.specs.Certificates.{AreProofs, AreVerified, verified_line}
 use Rattle.cf_answer.specs.Checks.{AreChecksBehind}
-use Rattle.cf_answer.specs.LateReplies.{IsLateReply, AreRunsAllowed}
+use Rattle.cf_answer.specs.Forms.{Wording, as_text, Form, form_of, InForm}
+use Rattle.cf_answer.specs.LateReplies.{main_comes, AreRunsAllowed}
 use Rattle.cf_answer.specs.Passes.{AreCalled, applied}
-use Rattle.cf_answer.specs.Picked.{IsSourceReply, adds}
+use Rattle.cf_answer.specs.Picked.{main_bases, IsSourceReply, adds}
+use Rattle.cf_answer.specs.Replies.{IsReplyIn}
+use Rattle.cf_answer.specs.ResultNames.{AreResultNames}
 use Rattle.cf_answer.specs.Sources.{Compiles, IsTypedSource, AreToldOf, IsLateSource, IsTypedTarget}
 
 -- what answers the lines of the input: a target, or a late program
@@ -35,34 +41,58 @@ pub data Answerer : Type 0 where
   by_target : RawTarget → Answerer
   by_late : TypedTree → Answerer
 
+-- the bases of the values that a line is to spell
+abbrev pub bases_by : Answerer → List Base
+bases_by (by_target t) = t.params.items
+bases_by (by_late typed) = main_bases typed
+
+-- what it comes to at these values
+abbrev pub comes_by : Answerer → List Value → LateOutcome
+comes_by (by_target t) vs = solve_run (code_tree t.code) vs
+comes_by (by_late typed) vs = main_comes typed vs
+
 -- the reply to a line
-abbrev pub IsReplyBy : Answerer → List ℕ → List ℕ → Type 0
-IsReplyBy (by_target t) line reply = IsReply line_limit (2 ^ 127 - 1) t line reply
-IsReplyBy (by_late typed) line reply = IsLateReply typed line reply
+abbrev pub IsReplyBy : Wording → Answerer → List ℕ → List ℕ → Type 0
+IsReplyBy w a line reply = IsReplyIn w (bases_by a) (comes_by a) line reply
+
+-- what answers lines, and in which form
+pub record Replier : Type 0 where
+  pub by : Answerer
+  pub form : Form
+
+-- its reply to a line
+abbrev pub IsReplyOf : Replier → List ℕ → List ℕ → Type 0
+IsReplyOf r line reply = InForm r.form (λ w. IsReplyBy w r.by) line reply
 
 -- the replies to lines, each with a line feed, where Is says which text replies to a line
 abbrev pub AllReplied : (List ℕ → List ℕ → Type 0) → List (List ℕ) → List ℕ → Type 0
 AllReplied Is [] text = text ≡ []
 AllReplied Is (line ∷ ls) text = (reply : List ℕ) × (more : List ℕ) × (text ≡ reply ++ 10 ∷ more) × Is line reply × AllReplied Is ls more
 
-abbrev pub AreReplies : Answerer → List (List ℕ) → List ℕ → Type 0
-AreReplies a ls text = AllReplied (IsReplyBy a) ls text
+abbrev pub AreReplies : Replier → List (List ℕ) → List ℕ → Type 0
+AreReplies r ls text = AllReplied (IsReplyOf r) ls text
 
--- the replies that the program of a source picks, where so many passes have rewritten it
-abbrev pub ArePicked : ℕ → List ℕ → List (List ℕ) → List ℕ → Type 0
-ArePicked passes source ls text = (typed : TypedTree) × IsTypedSource source typed × AllReplied (IsSourceReply typed passes) ls text
+-- the replies in a form that the program of a source picks, where so many passes have rewritten it
+abbrev pub ArePicked : Form → ℕ → List ℕ → List (List ℕ) → List ℕ → Type 0
+ArePicked form passes source ls text =
+    (typed : TypedTree) × IsTypedSource source typed × AllReplied (InForm form (λ w. IsSourceReply w typed passes)) ls text
 
 -- the target is that of the source, whose code is the one that the passes make, if they are called, and they were called so
 abbrev pub IsCompiledBy : Bool → List ℕ → List Told → List Told → RawTarget → Type 0
 IsCompiledBy calls source given last t = Compiles (applied calls given) (applied calls last) source t × AreCalled calls given last
 
--- What `run` is to write on a source, with passes that told `given` before and tell `last`: the replies of the target that it is compiled to by the passes,
+-- What `run` is to write on a source in a form, with passes that told `given` before and tell `last`: the replies of the target that it is compiled to by the passes,
 -- if it calls them, which its program picks; or the replies of its late program, with no pass called.
-pub data OwesRun (calls : Bool) (source : List ℕ) (given last : List Told) (ls : List (List ℕ)) (text : List ℕ) : Type 0 where
-  compiled : (t : RawTarget) → IsCompiledBy calls source given last t → AreReplies (by_target t) ls text →
-      ArePicked (length (applied calls last)) source ls text → OwesRun calls source given last ls text
-  late : (typed : TypedTree) → IsLateSource source typed → AreReplies (by_late typed) ls text → AreRunsAllowed typed → last ≡ given →
-      OwesRun calls source given last ls text
+pub data OwesRun (calls : Bool) (form : Form) (source : List ℕ) (given last : List Told) (ls : List (List ℕ)) (text : List ℕ) : Type 0 where
+  compiled : (t : RawTarget) → IsCompiledBy calls source given last t → AreReplies (record { by = by_target t; form = form }) ls text →
+      ArePicked form (length (applied calls last)) source ls text → OwesRun calls form source given last ls text
+  late : (typed : TypedTree) → IsLateSource source typed → AreReplies (record { by = by_late typed; form = form }) ls text → AreRunsAllowed typed →
+      last ≡ given → OwesRun calls form source given last ls text
+
+-- the same in the form that is asked for, with the names of the source's results
+abbrev pub OwesNamed : Bool → ReplyForm → List ℕ → List Told → List Told → List (List ℕ) → List ℕ → Type 0
+OwesNamed calls asked source given last ls text =
+    (names : List (List ℕ)) × AreResultNames source names × OwesRun calls (form_of asked names) source given last ls text
 
 -- the printed target with the header of its edition, which reads back to this target alone
 pub record IsPrinted (edition : Edition) (t : RawTarget) (text : List ℕ) : Type 0 where
@@ -97,7 +127,7 @@ AreSourceChecks source text =
 abbrev pub IsSum : RawTarget → TypedTree → ℕ → List (List ℕ) → ℤ → Type 0
 IsSum t typed passes [] sum = sum ≡ pos 0
 IsSum t typed passes (line ∷ ls) sum =
-    (reply : List ℕ) × IsReplyBy (by_target t) line reply × (is : IsSourceReply typed passes line reply) × (rest : ℤ)
+    (reply : List ℕ) × IsReplyBy as_text (by_target t) line reply × (is : IsSourceReply as_text typed passes line reply) × (rest : ℤ)
     × (sum ≡ adds typed passes line reply is +ℤ rest) × IsSum t typed passes ls rest
 
 -- lines L sum S
@@ -109,10 +139,11 @@ sum_line count sum = concat (codes "lines " ∷ decimal count ∷ codes " sum " 
 abbrev pub Owes : Command → List (List ℕ) → List Told → List Told → List (List ℕ) → List ℕ → Type 0
 Owes (compile flags name) (file ∷ []) given last ls text =
     (t : RawTarget) × IsCompiledBy (not flags.plain) file given last t × IsPrinted (edition_of file) t text
-Owes (run flags form name) (file ∷ []) given last ls text = OwesRun (not flags.plain) file given last ls text
+Owes (run flags asked name) (file ∷ []) given last ls text = OwesNamed (not flags.plain) asked file given last ls text
 Owes (pre name) (file ∷ []) given last ls text = (cs : List (ChooseTree × Branch)) × AreBranched file cs × ArePres cs text
 Owes (check name) (file ∷ []) given last ls text = AreSourceChecks file text
-Owes (exec form name) (file ∷ []) given last ls text = (t : RawTarget) × IsTypedTarget file (target_tree t) × AreReplies (by_target t) ls text
+Owes (exec asked name) (file ∷ []) given last ls text =
+    (t : RawTarget) × IsTypedTarget file (target_tree t) × AreReplies (record { by = by_target t; form = form_of asked [] }) ls text
 Owes (prove name) (file ∷ []) given last ls text = (cs : List (ChooseTree × Branch)) × AreBranched file cs × AreProofs (edition_of file) cs text
 Owes (verify name steps_name) (source ∷ steps ∷ []) given last ls text =
     (cs : List (ChooseTree × Branch)) × AreBranched source cs × AreVerified (edition_of source) cs steps

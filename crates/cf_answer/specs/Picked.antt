@@ -10,7 +10,8 @@ use Rattle.cf_growth.specs.Overflowing.{picked, MayOverflow}
 use Rattle.cf_build.specs.Built.{SourceAllows}
 use Rattle.cf_build.specs.Runs.{lowered_bodies}
 use Rattle.cf_eval.specs.Spelling.{SpellsValues}
-use Rattle.cf_eval.specs.Texts.{outcome_text}
+use Rattle.cf_late.specs.ChooseRun.{LateOutcome, comes_to, overflow}
+use Rattle.cf_answer.specs.Forms.{Wording, as_text}
 
 -- the bases of the parameters of main
 abbrev pub main_bases : TypedTree → List Base
@@ -20,21 +21,22 @@ main_bases typed = get_or (map (λ d. bases_of d.params) typed.defs) typed.main 
 abbrev pub main_picks : TypedTree → List Value → Option Outcome
 main_picks typed vs = picked (lowered_bodies typed.defs) typed.main vs
 
--- the text of what is picked
-abbrev pub picked_text : Option Outcome → List ℕ
-picked_text None = codes "overflow"
-picked_text (Some o) = outcome_text o
+-- what a program comes to that picks so
+abbrev pub picked_outcome : Option Outcome → LateOutcome
+picked_outcome None = overflow
+picked_outcome (Some o) = comes_to o
 
 -- The reply to a line by a program that so many passes have rewritten: what main picks at the values that the line spells. It is overflow only where a near
 -- path may overflow. Where what main picks overflows and there are passes, an allowed outcome may stand in its place.
-pub data IsSourceReply (typed : TypedTree) (passes : ℕ) (line : List ℕ) : List ℕ → Type 0 where
-  too_long : line_limit < length line → IsSourceReply typed passes line (codes "line too long")
+pub data IsSourceReply (w : Wording) (typed : TypedTree) (passes : ℕ) (line : List ℕ) : List ℕ → Type 0 where
+  too_long : line_limit < length line → IsSourceReply w typed passes line (w.fault (codes "line too long"))
   bad_input : length line ≤ line_limit → ((vs : List Value) → SpellsValues limit (main_bases typed) line vs → ⊥) →
-      IsSourceReply typed passes line (codes "bad input")
+      IsSourceReply w typed passes line (w.fault (codes "bad input"))
   picks : (vs : List Value) → length line ≤ line_limit → SpellsValues limit (main_bases typed) line vs →
-      (main_picks typed vs ≡ None → MayOverflow (lowered_bodies typed.defs) typed.main vs) → IsSourceReply typed passes line (picked_text (main_picks typed vs))
+      (main_picks typed vs ≡ None → MayOverflow (lowered_bodies typed.defs) typed.main vs) →
+      IsSourceReply w typed passes line (w.told (picked_outcome (main_picks typed vs)))
   allows : (vs : List Value) (o : Outcome) → length line ≤ line_limit → SpellsValues limit (main_bases typed) line vs → main_picks typed vs ≡ None →
-      1 ≤ passes → SourceAllows typed.defs typed.main vs o → IsSourceReply typed passes line (outcome_text o)
+      1 ≤ passes → SourceAllows typed.defs typed.main vs o → IsSourceReply w typed passes line (w.told (comes_to o))
 
 -- the number that an outcome is; overflow counts as 0, and so does an outcome that is no number
 abbrev pub outcome_number : Option Outcome → ℤ
@@ -42,7 +44,7 @@ outcome_number (Some (values (v ∷ []))) = number_of v
 outcome_number o = pos 0
 
 -- what a reply adds to a sum
-abbrev pub adds : (typed : TypedTree) (passes : ℕ) (line reply : List ℕ) → IsSourceReply typed passes line reply → ℤ
+abbrev pub adds : (typed : TypedTree) (passes : ℕ) (line reply : List ℕ) → IsSourceReply as_text typed passes line reply → ℤ
 adds typed passes line reply (picks vs short spelled near) = outcome_number (main_picks typed vs)
 adds typed passes line reply (allows vs o short spelled none some allowed) = outcome_number (Some o)
 adds typed passes line reply is = pos 0

@@ -24,16 +24,24 @@ use Rattle.cf_form.specs.declared.formed.FormedParts.{FormedParts}
 use Rattle.cf_eval.specs.Answers.{Answers}
 use Rattle.cf_eval.specs.Seen.{plains}
 use Rattle.cf_eval.specs.Spelling.{SpellsValues}
+use Rattle.cf_eval.specs.declared.fault.LineFault.{LineFault}
+use Rattle.cf_eval.specs.declared.fault.LineFault.TheVariants as line_fault
 use Rattle.cf_eval.specs.declared.value.Outcome.{Outcome as RunOutcome}
 use Rattle.cf_eval.specs.declared.value.Outcome.TheVariants.{Values, NoSolution, Overflow}
+use Rattle.cf_late.specs.Outcomes.{late_of}
+use Rattle.cf_late.specs.declared.outcome.LateOutcome.{LateOutcome as DeclaredLateOutcome}
 use Rattle.cf_answer.specs.Ends.{answered_lines}
 use Rattle.cf_answer.specs.Outside.{AreTold, one_past}
-use Rattle.cf_answer.specs.Owed.{Answerer, by_target, by_late, IsReplyBy, AreReplies, OwesRun}
+use Rattle.cf_answer.specs.Forms.{Form, form_of}
+use Rattle.cf_answer.specs.Owed.{Answerer, by_target, by_late, bases_by, comes_by, Replier, IsReplyOf, AreReplies, OwesRun}
 use Rattle.cf_answer.specs.Picked.{outcome_number}
 use Rattle.cf_answer.specs.Refusals.{CausesOf}
+use Rattle.cf_answer.specs.ResultNames.{AreResultNames}
 use Rattle.cf_answer.specs.Sources.{SpellsProgram}
 use Rattle.cf_answer.specs.declared.answerer.Answerer.{Answerer as DeclaredAnswerer}
 use Rattle.cf_answer.specs.declared.answerer.Answerer.TheVariants as answerer
+use Rattle.cf_answer.specs.declared.answerer.Replier.{Replier as DeclaredReplier}
+use Rattle.cf_answer.specs.declared.answerer.Runner.{Runner as DeclaredRunner}
 use Rattle.cf_answer.specs.declared.fault.Fault.{Fault}
 use Rattle.cf_answer.specs.declared.fault.Fault.TheVariants as fault
 
@@ -54,40 +62,55 @@ IsFormedProgram program f = (source : TypedTree) × (checked Three Plain program
 abbrev pub IsFormedSource : List ℕ → FormedParts → Type 0
 IsFormedSource text f = (program : List RawItemTree) × SpellsProgram text program × IsFormedProgram program f
 
--- its replies are what `run` owes on a source
+-- what answers lines, as the program keeps it with its form
+abbrev pub replier_of : DeclaredReplier → Replier
+replier_of r = record { by = answerer_of r.runner.answerer; form = form_of r.form r.runner.names.items }
+
+-- its replies in each form are what `run` owes on a source
 abbrev pub IsRunner : Bool → List ℕ → List Told → List Told → Answerer → Type 0
-IsRunner calls source given last a = (ls : List (List ℕ)) (text : List ℕ) → AreReplies a ls text → OwesRun calls source given last ls text
+IsRunner calls source given last a =
+    (form : Form) (ls : List (List ℕ)) (text : List ℕ) → AreReplies (record { by = a; form = form }) ls text → OwesRun calls form source given last ls text
+
+-- the same, with the names of the source's results
+abbrev pub IsNamedRunner : Bool → List ℕ → List Told → List Told → DeclaredRunner → Type 0
+IsNamedRunner calls source given last r = IsRunner calls source given last (answerer_of r.answerer) × AreResultNames source r.names.items
+
+-- what is come to at the values that a line spells, or that it spells none
+abbrev pub OutcomeAnswer : Answerer → List ℕ → Result DeclaredLateOutcome LineFault → Type 0
+OutcomeAnswer a line (Ok o) = (vs : List Value) × SpellsValues limit (bases_by a) line vs × (late_of o ≡ comes_by a vs)
+OutcomeAnswer a line (Err line_fault.BadInput) = (vs : List Value) → SpellsValues limit (bases_by a) line vs → ⊥
+OutcomeAnswer a line (Err line_fault.NoMemory) = Unit {0}
 
 -- a source text is refused, whatever rules the program breaks that it spells
 abbrev pub IsMisspelled : List ℕ → Fault → Type 0
 IsMisspelled text f = CausesOf (λ edition x f. ⊥) text f
 
 -- the reply to a line as it is cut
-abbrev pub IsLineReply : Answerer → Line → List ℕ → Type 0
-IsLineReply a (Text bytes) reply = length bytes ≤ line_limit → IsReplyBy a bytes reply
-IsLineReply a TooLong reply = reply ≡ codes "line too long"
+abbrev pub IsLineReply : Replier → Line → List ℕ → Type 0
+IsLineReply a (Text bytes) reply = length bytes ≤ line_limit → IsReplyOf a bytes reply
+IsLineReply a TooLong reply = reply ≡ a.form.wording.fault (codes "line too long")
 
-abbrev pub AreLineReplies : Answerer → List Line → List ℕ → Type 0
+abbrev pub AreLineReplies : Replier → List Line → List ℕ → Type 0
 AreLineReplies a [] text = text ≡ []
 AreLineReplies a (l ∷ ls) text = (reply : List ℕ) × (more : List ℕ) × (text ≡ reply ++ 10 ∷ more) × IsLineReply a l reply × AreLineReplies a ls more
 
 -- it took the replies to these lines
-abbrev pub TookLines : Answerer → List Line → Option (List ℕ) → Option (List ℕ) → Type 0
+abbrev pub TookLines : Replier → List Line → Option (List ℕ) → Option (List ℕ) → Type 0
 TookLines a ls old new = (text : List ℕ) × AreLineReplies a ls text × Appends old new text
 
 -- it took a prefix of them
-abbrev pub TookSomeLines : Answerer → List Line → Option (List ℕ) → Option (List ℕ) → Type 0
+abbrev pub TookSomeLines : Replier → List Line → Option (List ℕ) → Option (List ℕ) → Type 0
 TookSomeLines a ls old new = (text : List ℕ) × AreLineReplies a ls text × TookPrefix old new text
 
 -- the same of lines that are not cut
-abbrev pub TookReplies : Answerer → List (List ℕ) → Option (List ℕ) → Option (List ℕ) → Type 0
+abbrev pub TookReplies : Replier → List (List ℕ) → Option (List ℕ) → Option (List ℕ) → Type 0
 TookReplies a ls old new = (text : List ℕ) × AreReplies a ls text × Appends old new text
 
-abbrev pub TookSome : Answerer → List (List ℕ) → Option (List ℕ) → Option (List ℕ) → Type 0
+abbrev pub TookSome : Replier → List (List ℕ) → Option (List ℕ) → Option (List ℕ) → Type 0
 TookSome a ls old new = (text : List ℕ) × AreReplies a ls text × TookPrefix old new text
 
 -- the cutter stands for these bytes, and the lines that it told of them are answered
-pub record IsAnswered (a : Answerer) (most : Option ℕ) (cutter : CutterState) (bytes : List ℕ) (old new : Option (List ℕ)) : Type 0 where
+pub record IsAnswered (a : Replier) (most : Option ℕ) (cutter : CutterState) (bytes : List ℕ) (old new : Option (List ℕ)) : Type 0 where
   pub stands : Stands line_limit most cutter bytes
   pub took : TookLines a (told line_limit most bytes) old new
 
@@ -96,7 +119,7 @@ abbrev pub IsOutFault : Fault → Type 0
 IsOutFault f = (f ≡ fault.Output) ⊎ (f ≡ fault.NoMemory)
 
 -- so many bytes were read, and their lines are answered
-pub record IsReadTo (a : Answerer) (most : Option ℕ) (left still_left : Option (List ℕ)) (cutter : CutterState) (old new : Option (List ℕ)) (total : ℕ) : Type 0
+pub record IsReadTo (a : Replier) (most : Option ℕ) (left still_left : Option (List ℕ)) (cutter : CutterState) (old new : Option (List ℕ)) (total : ℕ) : Type 0
   where
     pub bytes : List ℕ
     pub read : Consumes left still_left bytes
@@ -104,7 +127,7 @@ pub record IsReadTo (a : Answerer) (most : Option ℕ) (left still_left : Option
     pub answered : IsAnswered a most cutter bytes old new
 
 -- what answering an input does, of which `front` was read and `left` is left; the sink held `old` before and holds `new` behind it
-abbrev pub Runs : Answerer → Option ℕ → List ℕ → Option (List ℕ) → Option (List ℕ) → Option (List ℕ) → Result (Unit {0}) Fault → Type 0
+abbrev pub Runs : Replier → Option ℕ → List ℕ → Option (List ℕ) → Option (List ℕ) → Option (List ℕ) → Result (Unit {0}) Fault → Type 0
 Runs a most front left old new (Ok done) = IsAtEnd left × IsWithin most (length front) × TookReplies a (lines front) old new
 Runs a most front left old new (Err fault.InputTooLong) = IsPast most (length front) × TookReplies a (ended (within most front)) old new
 Runs a most front left old new (Err fault.Input) = IsWithin most (length front) × TookReplies a (ended front) old new
@@ -113,14 +136,14 @@ Runs a most front left old new (Err fault.NoMemory) = (rest : List ℕ) × AreTo
 Runs a most front left old new (Err f) = ⊥
 
 -- the same of an input that may be told, of which at most one byte more than its limit is read
-pub record RunsOn (a : Answerer) (most : Option ℕ) (left still_left old new : Option (List ℕ)) (answer : Result (Unit {0}) Fault) : Type 0 where
+pub record RunsOn (a : Replier) (most : Option ℕ) (left still_left old new : Option (List ℕ)) (answer : Result (Unit {0}) Fault) : Type 0 where
   pub front : List ℕ
   pub read : Consumes left still_left front
   pub past : IsWithin (one_past most) (length front)
   pub runs : Runs a most front still_left old new answer
 
 -- what answering an input and then writing `end` does
-pub data RunsThrough (a : Answerer) (most : Option ℕ) (end : List ℕ) (left still_left old new : Option (List ℕ)) (answer : Result (Unit {0}) Fault) : Type 0
+pub data RunsThrough (a : Replier) (most : Option ℕ) (end : List ℕ) (left still_left old new : Option (List ℕ)) (answer : Result (Unit {0}) Fault) : Type 0
   where
     cut : (f : Fault) → answer ≡ Err f → RunsOn a most left still_left old new (Err f) → RunsThrough a most end left still_left old new answer
     part : (mid : Option (List ℕ)) (f : Fault) → RunsOn a most left still_left old mid (Ok tt) → answer ≡ Err f → IsOutFault f → TookPrefix mid new end →

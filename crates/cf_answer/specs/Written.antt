@@ -78,7 +78,7 @@ abbrev pub IsWrittenOf : Option (List ℕ) → Linearity → (List ℕ → Optio
 IsWrittenOf None how texts answer line = line ≡ answer_line answer
 IsWrittenOf (Some name) how texts answer line = (text : List ℕ) × AreTold (texts name) text × IsWritten how name text answer line
 
--- in edition 3 nothing is written of an output that failed because whoever reads it went away
+-- in edition 3 nothing need be written of an output that failed, since whoever reads it may have gone away
 abbrev pub IsDeserted : List (List ℕ) → (List ℕ → Option (List ℕ)) → Result (Unit {0}) Fault → List ℕ → Type 0
 IsDeserted [] texts answer line = ⊥
 IsDeserted (name ∷ names) texts answer line =

@@ -76,8 +76,8 @@ impl Ended {
         Ended::on_text(alloc, command, front, answer)
     }
 
-    // The same where an output that failed is told.
-    fn on_text(
+    /// The same where an output that failed is told.
+    pub fn on_text(
         alloc: Global,
         command: &FileCommand<'_>,
         front: &[u8],

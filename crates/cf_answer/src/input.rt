@@ -4,9 +4,9 @@ ghost use Rattle.std.specs.Io.KnownBytes.{IsAtEnd};
 ghost use Rattle.cf_io.specs.Limits.{IsWithin};
 ghost use Rattle.cf_answer.specs.Limits.{input_limit_of};
 ghost use Rattle.cf_answer.specs.Outside.{Counts, one_past};
-ghost use Rattle.cf_answer.specs.Steps.{answerer_of, IsReadTo, RunsOn, RunsThrough};
+ghost use Rattle.cf_answer.specs.Steps.{replier_of, IsReadTo, RunsOn, RunsThrough};
 
-use crate::answerer::Answerer;
+use crate::answerer::Replier;
 use crate::fault::Fault;
 use crate::pieces::{answer_piece, answer_rest};
 use crate::write::write_text;
@@ -22,7 +22,7 @@ const PIECE: usize = 4096;
 #[tactic(auto, using(crate::proofs::StepLemmas::read_next))]
 fn answer_next<I: Source, O: Sink>(
     alloc: Global,
-    answerer: &Answerer,
+    replier: &Replier,
     cutter: &mut Cutter,
     input: &mut I,
     out: &mut O,
@@ -30,14 +30,14 @@ fn answer_next<I: Source, O: Sink>(
 ) -> Result<usize, Fault>
     requires some { 0 < length piece.old }
     ensures more { IfOk result (λ count. (most : Option ℕ) (left old : Option (List ℕ)) (total : ℕ) →
-        IsReadTo (answerer_of answerer.now) most left (I.seen input.old).left cutter.old old (O.seen out.old).held total →
-        IsReadTo (answerer_of answerer.now) most left (I.seen input.new).left cutter.new old (O.seen out.new).held (total + count)) }
+        IsReadTo (replier_of replier.now) most left (I.seen input.old).left cutter.old old (O.seen out.old).held total →
+        IsReadTo (replier_of replier.now) most left (I.seen input.new).left cutter.new old (O.seen out.new).held (total + count)) }
     ensures bound { IfOk result (λ count. count ≤ length piece.old) }
     ensures ended { IfOk result (λ count. count ≡ 0 → IsAtEnd (I.seen input.new).left) }
     ensures fault { IfErr result (λ e. (most : Option ℕ) (left old : Option (List ℕ)) (total : ℕ) →
-        IsReadTo (answerer_of answerer.now) most left (I.seen input.old).left cutter.old old (O.seen out.old).held total →
+        IsReadTo (replier_of replier.now) most left (I.seen input.old).left cutter.old old (O.seen out.old).held total →
         IsWithin (one_past most) (total + length piece.old) →
-        RunsOn (answerer_of answerer.now) most left (I.seen input.new).left old (O.seen out.new).held (Err e)) }
+        RunsOn (replier_of replier.now) most left (I.seen input.new).left old (O.seen out.new).held (Err e)) }
     ensures input { Counts (IsErrOf result Fault.Input) (I.seen input.old).faults (I.seen input.new).faults }
     ensures output { Counts (IsErrOf result Fault.Output) (O.seen out.old).faults (O.seen out.new).faults }
     ensures given { IfOk result (λ count. (I.seen input.new).given ≤ (I.seen input.old).given + count) }
@@ -49,7 +49,7 @@ fn answer_next<I: Source, O: Sink>(
         Ok(count) => count,
         Err(Failed) => return Err(Fault::Input),
     };
-    answer_piece(alloc, answerer, cutter, &piece[..count], out)?;
+    answer_piece(alloc, replier, cutter, &piece[..count], out)?;
     Ok(count)
 }
 
@@ -58,13 +58,13 @@ fn answer_next<I: Source, O: Sink>(
 #[tactic(auto, using(crate::proofs::StepLemmas::read_none))]
 fn answer_within<I: Source, O: Sink>(
     alloc: Global,
-    answerer: &Answerer,
+    replier: &Replier,
     limit: usize,
     input: &mut I,
     out: &mut O,
 ) -> Result<(), Fault>
     requires small { limit < 2 ^ 31 }
-    ensures runs { RunsOn (answerer_of answerer.now) (Some limit) (I.seen input.old).left (I.seen input.new).left (O.seen out.old).held (O.seen out.new).held
+    ensures runs { RunsOn (replier_of replier.now) (Some limit) (I.seen input.old).left (I.seen input.new).left (O.seen out.old).held (O.seen out.new).held
         result }
     ensures input { Counts (IsErrOf result Fault.Input) (I.seen input.old).faults (I.seen input.new).faults }
     ensures output { Counts (IsErrOf result Fault.Output) (O.seen out.old).faults (O.seen out.new).faults }
@@ -76,9 +76,9 @@ fn answer_within<I: Source, O: Sink>(
     let mut total = 0usize;
     'pieces: while total <= limit {
         let room = (limit + 1 - total).min(PIECE);
-        let count = answer_next(alloc, answerer, &mut cutter, input, out, &mut piece[..room])?;
+        let count = answer_next(alloc, replier, &mut cutter, input, out, &mut piece[..room])?;
         if count == 0 {
-            return answer_rest(alloc, answerer, cutter, out);
+            return answer_rest(alloc, replier, cutter, out);
         }
         total += count;
     }
@@ -90,11 +90,11 @@ fn answer_within<I: Source, O: Sink>(
 #[tactic(auto, using(crate::proofs::StepLemmas::read_none))]
 fn answer_all<I: Source, O: Sink>(
     alloc: Global,
-    answerer: &Answerer,
+    replier: &Replier,
     input: &mut I,
     out: &mut O,
 ) -> Result<(), Fault>
-    ensures runs { RunsOn (answerer_of answerer.now) None (I.seen input.old).left (I.seen input.new).left (O.seen out.old).held (O.seen out.new).held result }
+    ensures runs { RunsOn (replier_of replier.now) None (I.seen input.old).left (I.seen input.new).left (O.seen out.old).held (O.seen out.new).held result }
     ensures input { Counts (IsErrOf result Fault.Input) (I.seen input.old).faults (I.seen input.new).faults }
     ensures output { Counts (IsErrOf result Fault.Output) (O.seen out.old).faults (O.seen out.new).faults }
     ensures ends { (I.seen input.new).ends ≤ (I.seen input.old).ends + 1 }
@@ -102,9 +102,9 @@ fn answer_all<I: Source, O: Sink>(
     let mut cutter = Cutter::new(alloc, None);
     let mut piece = [0u8; PIECE];
     'pieces: for _ in 0..u64::MAX {
-        let count = answer_next(alloc, answerer, &mut cutter, input, out, &mut piece)?;
+        let count = answer_next(alloc, replier, &mut cutter, input, out, &mut piece)?;
         if count == 0 {
-            return answer_rest(alloc, answerer, cutter, out);
+            return answer_rest(alloc, replier, cutter, out);
         }
     }
     Err(Fault::NoMemory)
@@ -114,11 +114,11 @@ fn answer_all<I: Source, O: Sink>(
 fn answer_input<I: Source, O: Sink>(
     alloc: Global,
     edition: Edition,
-    answerer: &Answerer,
+    replier: &Replier,
     input: &mut I,
     out: &mut O,
 ) -> Result<(), Fault>
-    ensures runs { RunsOn (answerer_of answerer.now) (input_limit_of edition) (I.seen input.old).left (I.seen input.new).left (O.seen out.old).held
+    ensures runs { RunsOn (replier_of replier.now) (input_limit_of edition) (I.seen input.old).left (I.seen input.new).left (O.seen out.old).held
         (O.seen out.new).held result }
     ensures input { Counts (IsErrOf result Fault.Input) (I.seen input.old).faults (I.seen input.new).faults }
     ensures output { Counts (IsErrOf result Fault.Output) (O.seen out.old).faults (O.seen out.new).faults }
@@ -126,8 +126,8 @@ fn answer_input<I: Source, O: Sink>(
     ensures ends { (I.seen input.new).ends ≤ (I.seen input.old).ends + 1 }
 {
     match edition {
-        Edition::Two => answer_within(alloc, answerer, longest_input(), input, out),
-        Edition::Three => answer_all(alloc, answerer, input, out),
+        Edition::Two => answer_within(alloc, replier, longest_input(), input, out),
+        Edition::Three => answer_all(alloc, replier, input, out),
     }
 }
 
@@ -135,18 +135,18 @@ fn answer_input<I: Source, O: Sink>(
 pub fn answer_by<I: Source, O: Sink>(
     alloc: Global,
     edition: Edition,
-    answerer: &Answerer,
+    replier: &Replier,
     end: &[u8],
     input: &mut I,
     out: &mut O,
 ) -> Result<(), Fault>
-    ensures through { RunsThrough (answerer_of answerer.now) (input_limit_of edition) end.now (I.seen input.old).left (I.seen input.new).left
+    ensures through { RunsThrough (replier_of replier.now) (input_limit_of edition) end.now (I.seen input.old).left (I.seen input.new).left
         (O.seen out.old).held (O.seen out.new).held result }
     ensures input { Counts (IsErrOf result Fault.Input) (I.seen input.old).faults (I.seen input.new).faults }
     ensures output { Counts (IsErrOf result Fault.Output) (O.seen out.old).faults (O.seen out.new).faults }
     ensures given { IsWithin (one_past (input_limit_of edition)) ((I.seen input.new).given - (I.seen input.old).given) }
     ensures ends { (I.seen input.new).ends ≤ (I.seen input.old).ends + 1 }
 {
-    answer_input(alloc, edition, answerer, input, out)?;
+    answer_input(alloc, edition, replier, input, out)?;
     write_text(out, end)
 }

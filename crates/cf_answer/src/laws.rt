@@ -25,8 +25,8 @@ pub fn compiled_is_run()
     ensures { CompiledIsRun }
 {}
 
-/// The needs that `pre` writes hold everywhere, or nowhere at a sample, where `check` finds that outputs
-/// always exist, or do not exist there.
+/// Of a choose whose relation alone `check` asks about, as in language 2: the needs that `pre` writes hold
+/// everywhere where it finds that outputs always exist, and nowhere at a sample at which it finds none.
 pub fn needs_are_checked()
     ensures { NeedsAreChecked }
 {}

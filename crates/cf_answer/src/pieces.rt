@@ -4,9 +4,9 @@ ghost use Rattle.cf_io.specs.Cut.{told, line_of};
 ghost use Rattle.cf_io.specs.Lines.{ended, lines as lines_of};
 ghost use Rattle.cf_io.specs.Limits.{line_limit, IsWithin};
 ghost use Rattle.cf_answer.specs.Outside.{Counts};
-ghost use Rattle.cf_answer.specs.Steps.{answerer_of, TookLines, TookSomeLines, IsAnswered, IsOutFault};
+ghost use Rattle.cf_answer.specs.Steps.{replier_of, TookLines, TookSomeLines, IsAnswered, IsOutFault};
 
-use crate::answerer::Answerer;
+use crate::answerer::Replier;
 use crate::fault::Fault;
 use crate::reply::replies;
 use crate::write::write_text;
@@ -17,19 +17,19 @@ use std::alloc::Global;
 #[tactic(auto, using(crate::proofs::ReplyLemmas::took_some, crate::proofs::ReplyLemmas::took_none, crate::proofs::OutsideLemmas::no_fault))]
 fn answer_lines<O: Sink>(
     alloc: Global,
-    answerer: &Answerer,
+    replier: &Replier,
     lines: &[Line],
     behind: &[u8],
     out: &mut O,
 ) -> Result<(), Fault>
-    ensures all { OnOk result (TookLines (answerer_of answerer.now) (lines.now ++ map (line_of line_limit) (ended behind.now)) (O.seen out.old).held
+    ensures all { OnOk result (TookLines (replier_of replier.now) (lines.now ++ map (line_of line_limit) (ended behind.now)) (O.seen out.old).held
         (O.seen out.new).held) }
-    ensures some { TookSomeLines (answerer_of answerer.now) (lines.now ++ map (line_of line_limit) (ended behind.now)) (O.seen out.old).held
+    ensures some { TookSomeLines (replier_of replier.now) (lines.now ++ map (line_of line_limit) (ended behind.now)) (O.seen out.old).held
         (O.seen out.new).held }
     ensures fault { IfErr result IsOutFault }
     ensures count { Counts (IsErrOf result Fault.Output) (O.seen out.old).faults (O.seen out.new).faults }
 {
-    let text = replies(alloc, answerer, lines, behind)?;
+    let text = replies(alloc, replier, lines, behind)?;
     write_text(out, &text)
 }
 
@@ -37,43 +37,43 @@ fn answer_lines<O: Sink>(
 #[tactic(auto, using(crate::proofs::OutsideLemmas::no_fault))]
 pub fn answer_piece<O: Sink>(
     alloc: Global,
-    answerer: &Answerer,
+    replier: &Replier,
     cutter: &mut Cutter,
     piece: &[u8],
     out: &mut O,
 ) -> Result<(), Fault>
     ensures all { OnOk result ((most : Option ℕ) (bytes : List ℕ) (first : Option (List ℕ)) →
-        IsAnswered (answerer_of answerer.now) most cutter.old bytes first (O.seen out.old).held →
-        IsAnswered (answerer_of answerer.now) most cutter.new (bytes ++ piece.now) first (O.seen out.new).held) }
+        IsAnswered (replier_of replier.now) most cutter.old bytes first (O.seen out.old).held →
+        IsAnswered (replier_of replier.now) most cutter.new (bytes ++ piece.now) first (O.seen out.new).held) }
     ensures some { OnErr result ((most : Option ℕ) (bytes : List ℕ) (first : Option (List ℕ)) →
-        IsAnswered (answerer_of answerer.now) most cutter.old bytes first (O.seen out.old).held →
-        TookSomeLines (answerer_of answerer.now) (told line_limit most (bytes ++ piece.now)) first (O.seen out.new).held) }
+        IsAnswered (replier_of replier.now) most cutter.old bytes first (O.seen out.old).held →
+        TookSomeLines (replier_of replier.now) (told line_limit most (bytes ++ piece.now)) first (O.seen out.new).held) }
     ensures fault { IfErr result IsOutFault }
     ensures count { Counts (IsErrOf result Fault.Output) (O.seen out.old).faults (O.seen out.new).faults }
 {
     let mut lines = Vec::new(alloc);
     let behind = cutter.feed_first(piece, &mut lines)?;
-    answer_lines(alloc, answerer, &lines, behind, out)
+    answer_lines(alloc, replier, &lines, behind, out)
 }
 
 /// Answers the last line, where bytes stand after the last line feed.
 #[tactic(auto, using(crate::proofs::OutsideLemmas::no_fault))]
 pub fn answer_rest<O: Sink>(
     alloc: Global,
-    answerer: &Answerer,
+    replier: &Replier,
     cutter: Cutter,
     out: &mut O,
 ) -> Result<(), Fault>
     ensures all { OnOk result ((most : Option ℕ) (bytes : List ℕ) (first : Option (List ℕ)) →
-        IsAnswered (answerer_of answerer.now) most cutter bytes first (O.seen out.old).held → IsWithin most (length bytes) →
-        TookLines (answerer_of answerer.now) (map (line_of line_limit) (lines_of bytes)) first (O.seen out.new).held) }
+        IsAnswered (replier_of replier.now) most cutter bytes first (O.seen out.old).held → IsWithin most (length bytes) →
+        TookLines (replier_of replier.now) (map (line_of line_limit) (lines_of bytes)) first (O.seen out.new).held) }
     ensures some { (most : Option ℕ) (bytes : List ℕ) (first : Option (List ℕ)) →
-        IsAnswered (answerer_of answerer.now) most cutter bytes first (O.seen out.old).held → IsWithin most (length bytes) →
-        TookSomeLines (answerer_of answerer.now) (map (line_of line_limit) (lines_of bytes)) first (O.seen out.new).held }
+        IsAnswered (replier_of replier.now) most cutter bytes first (O.seen out.old).held → IsWithin most (length bytes) →
+        TookSomeLines (replier_of replier.now) (map (line_of line_limit) (lines_of bytes)) first (O.seen out.new).held }
     ensures fault { IfErr result IsOutFault }
     ensures count { Counts (IsErrOf result Fault.Output) (O.seen out.old).faults (O.seen out.new).faults }
 {
     let mut lines = Vec::new(alloc);
     cutter.finish(&mut lines)?;
-    answer_lines(alloc, answerer, &lines, &[], out)
+    answer_lines(alloc, replier, &lines, &[], out)
 }

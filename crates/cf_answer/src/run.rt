@@ -1,15 +1,14 @@
 //! `run`: the replies of a source to the lines of the input.
 ghost use Rattle.std.specs.Prelude.{◌≡◌, ◌≤◌, ◌<◌, ◌-◌, ◌^◌, ◌∷◌, [], List, ℕ, not, length, map, OnErr};
 ghost use Rattle.cf_words.specs.Commands.{run as the_run};
-ghost use Rattle.cf_words.specs.declared.command.ReplyForm.{ReplyForm};
 ghost use Rattle.cf_answer.specs.Ends.{AnswersOn};
 ghost use Rattle.cf_answer.specs.Limits.{text_limit};
 ghost use Rattle.cf_answer.specs.Outside.{streams};
 ghost use Rattle.cf_answer.specs.Refusals.{IsRefusedRun};
 ghost use Rattle.cf_answer.specs.Statuses.{status_of as the_status_of, IsEarly};
-ghost use Rattle.cf_answer.specs.Steps.{IsVerdict, IsRunner, answerer_of};
+ghost use Rattle.cf_answer.specs.Steps.{IsVerdict, IsNamedRunner};
 
-use crate::answerer::Answerer;
+use crate::answerer::{Replier, Runner};
 use crate::fault::Fault;
 use crate::input::answer_by;
 use crate::source::runner;
@@ -17,20 +16,23 @@ use crate::tallies::closing;
 use cf_io::{Sink, Source};
 use cf_lex::edition_of;
 use cf_pass::Pass;
-use cf_words::Flags;
+use cf_words::{Flags, ReplyForm};
 use std::alloc::Global;
 
-// What answers the lines for `run` of a source text, where a target is rewritten by the passes, or by
-// none if it is to be plain.
-fn answerer(
+/// What answers the lines for `run` of a source text, where a target is rewritten by the passes, or by
+/// none if it is to be plain.
+///
+/// # Errors
+/// Why the text is refused (docs/FORMATS.md, 'Statuses'), or `NoMemory`.
+pub fn runner_of(
     alloc: Global,
     plain: bool,
     text: &[u8],
     passes: &mut Vec<Box<dyn Pass>>,
-) -> Result<Answerer, Fault>
+) -> Result<Runner, Fault>
     requires short { length text.now ≤ text_limit }
     requires place { length text.now < 2 ^ 32 - 1 }
-    ensures verdict { IsVerdict (λ a. IsRunner (not plain) text.now (map (λ p. told p) passes.old.items) (map (λ p. told p) passes.new.items) (answerer_of a))
+    ensures verdict { IsVerdict (IsNamedRunner (not plain) text.now (map (λ p. told p) passes.old.items) (map (λ p. told p) passes.new.items))
         (IsRefusedRun text.now) result }
     ensures kept { OnErr result (map (λ p. told p) passes.new.items ≡ map (λ p. told p) passes.old.items) }
 {
@@ -44,6 +46,7 @@ fn answerer(
 pub fn run_source<I: Source, O: Sink>(
     alloc: Global,
     flags: Flags,
+    form: ReplyForm,
     text: &[u8],
     input: &mut I,
     out: &mut O,
@@ -51,13 +54,14 @@ pub fn run_source<I: Source, O: Sink>(
 ) -> Result<(), Fault>
     requires short { length text.now ≤ text_limit }
     requires place { length text.now < 2 ^ 32 - 1 }
-    ensures answers { (form : ReplyForm) (file : List ℕ) →
+    ensures answers { (file : List ℕ) →
         AnswersOn (the_run flags form file) (map (λ p. told p) passes.old.items) (map (λ p. told p) passes.new.items) (text.now ∷ [])
         (streams (I.seen input.old) (O.seen out.old)) (streams (I.seen input.new) (O.seen out.new)) result }
     ensures unread { IsEarly (the_status_of result) → input.new ≡ input.old }
     ensures unwritten { IsEarly (the_status_of result) → out.new ≡ out.old }
 {
-    let answerer = answerer(alloc, flags.plain, text, passes)?;
+    let runner = runner_of(alloc, flags.plain, text, passes)?;
     let end = closing(alloc, flags.stats, passes)?;
-    answer_by(alloc, edition_of(text), &answerer, &end, input, out)
+    let replier = Replier { runner, form };
+    answer_by(alloc, edition_of(text), &replier, &end, input, out)
 }

@@ -14,10 +14,11 @@ ghost use Rattle.cf_answer.specs.Refusals.{IsBroken, IsBrokenSource, IsRefusedSo
 ghost use Rattle.cf_answer.specs.Sources.{SpellsProgram, IsTypedBy, IsTypedSource, IsLoweredSource};
 ghost use Rattle.cf_form.specs.ToldView.{told_choose};
 ghost use Rattle.cf_answer.specs.Verifying.{edition_in, told_in, IsToldProgram};
-ghost use Rattle.cf_answer.specs.Steps.{IsVerdict, IsFormedProgram, IsFormedSource, IsMisspelled, IsRunner, answerer_of};
+ghost use Rattle.cf_answer.specs.Steps.{IsVerdict, IsFormedProgram, IsFormedSource, IsMisspelled, IsNamedRunner, IsRunner, answerer_of};
 
-use crate::answerer::Answerer;
+use crate::answerer::{Answerer, Runner};
 use crate::fault::Fault;
+use crate::names::result_names;
 use crate::text::lexed;
 use cf_build::build;
 use cf_form::{ChooseInfo, Formed, form, form_late};
@@ -214,25 +215,23 @@ pub fn target_of_text(
 }
 
 /// What answers the lines for `run` of a source text: the target that it is compiled to by these
-/// passes, or where it is linear only once the numbers in scope are known, its late program. Or why
-/// the text is refused.
-pub fn runner(
-    alloc: Global,
-    text: &[u8],
-    passes: &mut Vec<Box<dyn Pass>>,
-) -> Result<Answerer, Fault>
+/// passes, or where it is linear only once the numbers in scope are known, its late program; with the
+/// names of its results. Or why the text is refused.
+pub fn runner(alloc: Global, text: &[u8], passes: &mut Vec<Box<dyn Pass>>) -> Result<Runner, Fault>
     requires short { length text.now ≤ text_limit }
     requires place { length text.now < 2 ^ 32 - 1 }
-    ensures verdict { IsVerdict (λ a. IsRunner true text.now (map (λ p. told p) passes.old.items) (map (λ p. told p) passes.new.items) (answerer_of a))
+    ensures verdict { IsVerdict (IsNamedRunner true text.now (map (λ p. told p) passes.old.items) (map (λ p. told p) passes.new.items))
         (IsRefusedRun text.now) result }
     ensures kept { OnErr result (map (λ p. told p) passes.new.items ≡ map (λ p. told p) passes.old.items) }
 {
     let edition = edition_of(text);
     let program = parsed(alloc, edition, text)?;
-    program_runner(alloc, edition, &program, passes)
+    let names = result_names(alloc, &program)?;
+    let answerer = program_answerer(alloc, edition, &program, passes)?;
+    Ok(Runner { answerer, names })
 }
 
-fn program_runner(
+fn program_answerer(
     alloc: Global,
     edition: Edition,
     program: &Program,
@@ -249,14 +248,14 @@ fn program_runner(
             let target = build(alloc, &typed, passes)?;
             Ok(Answerer::Target(target))
         }
-        Err(Fault::Rule(fault)) => late_runner(alloc, edition, program, fault),
+        Err(Fault::Rule(fault)) => late_answerer(alloc, edition, program, fault),
         Err(fault) => Err(fault),
     }
 }
 
 // What answers the lines of a program that breaks this rule: where it is that on linear relations, its
 // late program.
-fn late_runner(
+fn late_answerer(
     alloc: Global,
     edition: Edition,
     program: &Program,

@@ -15,6 +15,7 @@ mod values;
 
 ghost use Rattle.cf_late.specs.ProgramLaw.{LateRunsAreAllowed};
 
+pub use crate::outcome::LateOutcome;
 pub use crate::reply::late_reply;
 pub use crate::run::run_late;
 

@@ -164,17 +164,7 @@ fn answer_front<I: Source, O: Sink>(
     if front.len() > longest_of(command.kind) {
         return Err(Fault::TextTooLong);
     }
-    if command.form.key || command.form.jsonl {
-        return Err(not_built());
-    }
     answer_text(alloc, command, front, input, out, passes)
-}
-
-// Replies by key and as JSON are not built yet: memory counts as used up.
-fn not_built() -> Fault
-    ensures { result ≡ faults.NoMemory }
-{
-    Fault::NoMemory
 }
 
 // The most bytes of a file that a command takes. Which edition a target is of is known only when it was read.
@@ -214,10 +204,10 @@ fn answer_text<I: Source, O: Sink>(
     let flags = command.flags;
     match command.kind {
         CommandKind::Compile => write_target(alloc, flags, text, out, passes),
-        CommandKind::Run => run_source(alloc, flags, text, input, out, passes),
+        CommandKind::Run => run_source(alloc, flags, command.form, text, input, out, passes),
         CommandKind::Pre => write_preconditions(alloc, text, out),
         CommandKind::Check => write_checks(alloc, text, out),
-        CommandKind::Exec => run_target(alloc, text, input, out),
+        CommandKind::Exec => run_target(alloc, command.form, text, input, out),
         CommandKind::Prove => write_blocks(alloc, text, out),
     }
 }

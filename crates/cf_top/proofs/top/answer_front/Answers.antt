@@ -6,11 +6,6 @@ returns-then-front-longest_of-clause-answers g c =
     let most = c.longest_of.ensures.is c.args.command.now.flags c.args.command.now.form c.args.command.now.file.now [] in
     λ few. absurd (omega (arith, few, c.if-front-longest_of.true, most))
 
-pub returns-then-command-clause-long : goal.returns-then-command-clause-long
-returns-then-command-clause-long g c =
-    let most = c.longest_of.ensures.is c.args.command.now.flags c.args.command.now.form c.args.command.now.file.now [] in
-    inl (omega (arith, c.if-front-longest_of.false, most))
-
 pub returns-clause-long : goal.returns-clause-long
 returns-clause-long g c =
     let most = c.longest_of.ensures.is c.args.command.now.flags c.args.command.now.form c.args.command.now.file.now [] in

@@ -4,7 +4,7 @@ pub returns-in-Compile-clause-answers : goal.returns-in-Compile-clause-answers
 returns-in-Compile-clause-answers g c = rw c.in-Compile.is (c.write_target.ensures.answers c.args.command.now.file.now (g.I.Source.seen c.args.input.now))
 
 pub returns-in-Run-clause-answers : goal.returns-in-Run-clause-answers
-returns-in-Run-clause-answers g c = rw c.in-Run.is (c.run_source.ensures.answers c.args.command.now.form c.args.command.now.file.now)
+returns-in-Run-clause-answers g c = rw c.in-Run.is (c.run_source.ensures.answers c.args.command.now.file.now)
 
 pub returns-in-Pre-clause-answers : goal.returns-in-Pre-clause-answers
 returns-in-Pre-clause-answers g c =
@@ -15,7 +15,7 @@ returns-in-Check-clause-answers g c =
     rw c.in-Check.is (c.write_checks.ensures.answers c.args.command.now.file.now _ (g.I.Source.seen c.args.input.now))
 
 pub returns-in-Exec-clause-answers : goal.returns-in-Exec-clause-answers
-returns-in-Exec-clause-answers g c = rw c.in-Exec.is (c.run_target.ensures.answers c.args.command.now.form c.args.command.now.file.now _)
+returns-in-Exec-clause-answers g c = rw c.in-Exec.is (c.run_target.ensures.answers c.args.command.now.file.now _)
 
 pub returns-in-Prove-clause-answers : goal.returns-in-Prove-clause-answers
 returns-in-Prove-clause-answers g c =
