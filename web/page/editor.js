@@ -1,13 +1,7 @@
 // A text area with colours and line numbers, and with the piece at a place marked. The colours lie behind the text, which is transparent; long lines
 // are wrapped in both alike.
 import {pieces} from './colours.js';
-
-function element(name, className, ...children) {
-  const made = document.createElement(name);
-  if (className) made.className = className;
-  made.append(...children);
-  return made;
-}
+import {element} from './texts.js';
 
 // A longer text has no colours: they would be drawn anew with each key.
 const mostColoured = 100000;
@@ -27,7 +21,7 @@ function linesOf(text) {
 }
 
 export class Editor {
-  #text = element('textarea');
+  #text = element('textarea', '');
   #colours = element('div', 'colours');
   #place = null;
 

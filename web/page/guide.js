@@ -1,12 +1,6 @@
 // Shows the tour, a step at a time.
 import {tour} from './tour.js';
-import {byId, nodesOf} from './texts.js';
-
-function paragraph(text) {
-  const made = document.createElement('p');
-  made.append(...nodesOf(text));
-  return made;
-}
+import {button, byId, element, nodesOf} from './texts.js';
 
 export class Guide {
   #at = 0;
@@ -41,7 +35,8 @@ export class Guide {
     byId('tour').hidden = false;
     byId('tour-title').textContent = step.title;
     byId('tour-count').textContent = `step ${at + 1} of ${tour.length}`;
-    byId('tour-text').replaceChildren(...step.text.map(paragraph), ...this.#offers(step));
+    byId('tour-text').replaceChildren(...step.text.map(text => element('p', '', ...nodesOf(text))));
+    byId('tour-offers').replaceChildren(...this.#offers(step));
     byId('tour-back').disabled = at === 0;
     byId('tour-next').textContent = at + 1 < tour.length ? 'Next' : 'Done';
     byId('tour-title').focus();
@@ -50,9 +45,8 @@ export class Guide {
 
   #offers({offer}) {
     if (!offer) return [];
-    const button = document.createElement('button');
-    Object.assign(button, {type: 'button', id: 'tour-offer', textContent: offer.label});
-    button.addEventListener('click', () => { button.disabled = true; this.#onOffer(offer); });
-    return [button];
+    const made = button(offer.label, () => { made.disabled = true; this.#onOffer(offer); });
+    made.id = 'tour-offer';
+    return [made];
   }
 }

@@ -1,10 +1,10 @@
-// What the program's errors mean, for someone who meets them first, and how each kind of answer is named.
+// What the program's errors mean, for someone who meets them first, and how each kind of answer is named. These stand in where the program gives no help.
+import {sourceName} from './heads.js';
 
 const places = {
   'bad byte': 'The language has no such sign. There is no `/`: write `div(a, 2)`. There is no `%`: write `mod(a, 2)`.',
   'number past limit': 'The largest number is 170141183460469231731687303715884105727.',
-  'syntax': 'No program goes on like this: the marked word stands in the wrong place, or something before it is missing. Compare with `==`, and give ' +
-    'each `if` an `else`. A program with a chain, such as `0 < x < a`, begins with `comfusy 3`. Some words, such as `given`, cannot be names.',
+  'syntax': 'No program goes on like this: the marked word stands in the wrong place, or something before it is missing.',
   'unknown name': 'Nothing has this name here. Is it misspelled, or bound elsewhere?',
   'duplicate name': 'Two things would have one name here.',
   'wrong count': 'There are more or fewer values here than names or parameters for them.',
@@ -18,7 +18,7 @@ const places = {
 };
 
 const wholes = [
-  [/^(?:source: )?no main/, 'A program begins at a function that is named `main`.'],
+  [/(?:^|: )no main$/, 'A program begins at a function that is named `main`.'],
   [/text too long/, 'A program has at most 1,048,576 bytes. A target or steps, read or written, have at most 67,108,864; of language 2 1,048,576 are read.'],
   [/Cases \d/, 'The relation has too many cases: `||` adds them up, `&&` multiplies, and `!=` counts 2. Say with ranges what is left.'],
   [/Search \d/, 'Too many numbers would be tried. If a sum lies between two bounds, give it a name of its own with `==`.'],
@@ -30,18 +30,18 @@ const wholes = [
   [/(?:^|: )Depth \d/, 'Parentheses, calls or branches stand too deep in one another.'],
   [/rejected at case 0 step 0/, 'This is said of the block as a whole: its steps may be right, but its code or its cases are not theirs.'],
   [/rejected at case/, 'Steps and cases count from 1. This step may not be taken where it stands.'],
-  [/no memory/, 'The page ran out of memory.'],
+  [/no memory/, 'The page ran out of memory, or the program asks for what is not built yet, such as `minimise`.'],
   [/input too long/, 'In language 2 at most 16,777,216 bytes of input are read. A program that begins with `comfusy 3` takes any number.'],
 ];
 
 const missing = 'The program ends where something else should come. Perhaps a parenthesis, an `else` or the body of a function is missing.';
+const placed = new RegExp(`^(?:(?:steps )?line \\d+ column \\d+|${sourceName.replace('.', '\\.')}:\\d+:\\d+): ([a-z 1]+)(?::.*)?$`, 'm');
 
-// What a line of the program means, '' where it says all. `isAtEnd` is whether its place is the end of the program.
-export function helpOf(told, isAtEnd) {
-  const behind = /^(?:(?:steps )?line \d+ column \d+|source:\d+:\d+): ([a-z 1]+)(?::.*)?$/m.exec(told);
-  if (behind && isAtEnd && behind[1] === 'syntax') return missing;
-  if (behind && places[behind[1]]) return places[behind[1]];
-  return wholes.find(([pattern]) => pattern.test(told))?.[1] ?? '';
+// What the first line of a fault means, '' where it says all. `isAtEnd` is whether its place is the end of the program.
+export function helpOf(what, isAtEnd) {
+  const told = placed.exec(what)?.[1];
+  if (told === 'syntax' && isAtEnd) return missing;
+  return places[told] ?? wholes.find(([pattern]) => pattern.test(what))?.[1] ?? '';
 }
 
 const statuses = {
@@ -62,7 +62,7 @@ export function helpOfFault(fault) {
 // What is told where a command wrote nothing.
 export function nothingOf({reads}, {status}) {
   if (status === undefined) return 'There is no answer.';
-  if (status === 13) return 'The steps are rejected. Why stands below them.';
-  if (status !== 0) return 'The program is refused, so there is nothing to show. What is wrong stands below it.';
+  if (status === 13) return 'The steps are rejected. Why is told below them.';
+  if (status !== 0) return 'The program is refused, so there is nothing to show. What is wrong is told below the program.';
   return reads === 'lines' ? 'There are no input lines yet.' : 'There is nothing to show: the program has no choose.';
 }

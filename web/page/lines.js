@@ -2,7 +2,7 @@
 import {byId} from './texts.js';
 
 const mostReplies = 2000;
-const bad = /^(no solution|overflow|bad input|line too long|choose )/;
+const bad = /^(no solution|overflow|bad input|line too long|choose |\{"error": ")/;
 
 function reply(text, className) {
   const item = document.createElement('li');

@@ -4,32 +4,35 @@ import {Editor} from './editor.js';
 import {programSum} from './examples.js';
 import {Faults} from './faults.js';
 import {Guide} from './guide.js';
-import {inputsOfMain} from './heads.js';
+import {inputsOfMain, isOfEdition3, sourceName} from './heads.js';
 import {helpOf, helpOfFault, nothingOf} from './helps.js';
 import {Lines} from './lines.js';
 import {stateOf} from './link.js';
-import {loadModule, newWorker} from './load.js';
 import {Menu, exampleOf} from './menu.js';
 import {Plot} from './plot.js';
 import {Program} from './program.js';
+import {Saving} from './saving.js';
 import {Sharing} from './sharing.js';
 import {showEnd, showUnloaded, showWorking} from './status.js';
 import {Tabs} from './tabs.js';
 import {byId, nodesOf} from './texts.js';
 import {showWritten} from './written.js';
 
+const {begun} = globalThis;
 // In milliseconds.
 const untilAsked = 100, untilWorking = 300, longestPlot = 3000;
 const source = new Editor(byId('source'), () => edited());
 const steps = new Editor(byId('steps'), () => { hasOwnSteps = true; edited(); });
 const lines = new Lines(() => edited());
-const faults = new Faults({source, steps});
+const faults = new Faults({source, steps}, renew);
 const menu = new Menu(name => { loadExample(name); sharing.keep(); ask(); });
 const tabs = new Tabs(choose);
 const plot = new Plot(askSoon, tryLine);
 const guide = new Guide(startStep, makeOffer);
 const sharing = new Sharing(state);
-let program = null, hasOwnSteps = false, seen = [], latest = 0, askTimer;
+new Saving(() => ({source: source.text, lines: lines.text}), answerToSaving, begun.isOneFile);
+const program = new Program(begun, tellUnloaded);
+let maker = null, isUnloaded = false, hasOwnSteps = false, seen = [], latest = 0, askTimer;
 
 // ---- what is asked ----
 
@@ -49,17 +52,17 @@ function flags() {
   return [...byId('flags').querySelectorAll('input:checked')].map(box => box.value);
 }
 
-function callOf({name, reads}) {
-  const files = {source: source.text};
+function callOf({name, asks = name, reads}) {
+  const files = {[sourceName]: source.text};
   if (reads === 'steps') files.steps = steps.text;
-  return {words: [name, ...Object.keys(files), ...flags()], files, input: reads === 'lines' ? lines.text : ''};
+  return {words: [asks, ...Object.keys(files), ...flags()], files, input: reads === 'lines' ? lines.text : ''};
 }
 
 // Asks the program what the tab shows. Each question has a number; an answer to any but the latest is left.
 async function ask() {
   clearTimeout(askTimer);
-  if (!program) return;
-  const number = ++latest, command = commandOf(tabs.selected), timer = setTimeout(showWorking, untilWorking);
+  if (isUnloaded) return;
+  const number = ++latest, command = commandOf(tabs.selected), timer = setTimeout(() => showWorking(program.isLoaded), untilWorking);
   const answer = await answerTo(command, number);
   clearTimeout(timer);
   if (number !== latest) return;
@@ -77,11 +80,18 @@ async function answerTo(command, number) {
   return program.call(callOf(command));
 }
 
+// The answer for a file to be saved, {} while the program is not there. It has a worker of its own, so that no answer to an edit is cut short by it.
+async function answerToSaving(name) {
+  if (!program.isLoaded) return {};
+  maker ??= program.another();
+  return maker.call({words: [name, sourceName], files: {[sourceName]: source.text}, input: ''});
+}
+
 async function askPlot(number) {
   const input = plot.lines(inputsOfMain(source.text), lines.text);
   if (input === null) return;
   const timer = setTimeout(() => { if (number === latest) program.stop(); }, longestPlot);
-  const answer = await program.call({words: ['run', 'source'], files: {source: source.text}, input});
+  const answer = await program.call({words: ['run', sourceName], files: {[sourceName]: source.text}, input});
   clearTimeout(timer);
   if (number !== latest) return;
   if (answer.status === 0) plot.show(answer.out);
@@ -92,15 +102,20 @@ async function askPlot(number) {
 // ---- what is shown ----
 
 function show(command, answer) {
-  const isCut = answer.isStopped || answer.fault, told = answer.fault ? helpOfFault(answer.fault) : (answer.err ?? '').trimEnd();
+  const isCut = answer.isStopped || answer.fault;
   showEnd(answer);
-  faults.show(told, helpOf(told, isAtEnd(told)));
+  showFault(answer);
   showOut(command, answer.out ?? '');
   for (const id of ['replies', 'written']) byId(id).dataset.nothing = nothingOf(command, answer);
   if (isCut || answer.status !== 0 || command.reads !== 'lines') plot.hide();
   markSeen();
   document.body.dataset.first ??= Math.round(performance.now());
   document.body.dataset.answered = latest;
+}
+
+function showFault({fault, err = '', status}) {
+  const told = fault ? helpOfFault(fault) : err.trimEnd(), [what] = told.split('\n');
+  faults.show(told, helpOf(what, isAtEnd(what)), status >= 6 && status <= 10 && !isOfEdition3(source.text));
 }
 
 // Whether a line tells of the end of the program.
@@ -112,8 +127,8 @@ function isAtEnd(told) {
 function showOut(command, out) {
   const inputs = inputsOfMain(source.text);
   lines.expect(inputs);
-  if (command.reads === 'lines') lines.show(out);
-  else showWritten(out, {inputs, placeOf: line => faults.placeOf(line), go: place => faults.goTo(place), onTry: tryLine});
+  if (command.shows === 'replies') lines.show(out);
+  else if (command.shows === 'written') showWritten(out, {inputs, placeOf: line => faults.placeOf(line), go: place => faults.goTo(place), onTry: tryLine});
 }
 
 // Marks what the step of the tour speaks of.
@@ -135,12 +150,14 @@ function flagBox({flag, tells}) {
 }
 
 function showTab(name) {
-  const command = commandOf(name), isRun = command.reads === 'lines';
+  const command = commandOf(name);
   tabs.show(command.name);
   byId('question').replaceChildren(...nodesOf(command.question));
   byId('flags').replaceChildren(...command.flags.map(flagBox));
-  byId('lines-part').hidden = !isRun;
-  byId('written').hidden = isRun;
+  byId('lines-part').hidden = command.shows !== 'replies';
+  byId('written').hidden = command.shows !== 'written';
+  byId('home-part').hidden = command.shows !== 'files';
+  byId('saved').textContent = '';
   byId('steps-part').hidden = command.reads !== 'steps';
 }
 
@@ -189,6 +206,12 @@ function makeOffer(offer) {
   ask();
 }
 
+// Makes a text of language 2 one of edition 3.
+function renew() {
+  source.text = `comfusy 3\n${source.text}`;
+  edited();
+}
+
 function change({from, to}) {
   source.text = source.text.replace(from, to);
   edited();
@@ -218,7 +241,7 @@ async function loadLink() {
 function press(event) {
   if (event.key === 'Enter' && (event.ctrlKey || event.metaKey)) ask();
   else if (event.key === 'F8' && faults.place) faults.goTo(faults.place);
-  else if (event.key === 'Escape' && program?.isBusy) program.stop();
+  else if (event.key === 'Escape' && program.isBusy) program.stop();
   else if (event.key === 'Escape' && guide.isOpen) guide.close();
   else return;
   event.preventDefault();
@@ -231,19 +254,19 @@ function listen() {
   window.addEventListener('hashchange', async () => { await loadLink(); ask(); });
 }
 
+function tellUnloaded(why) {
+  isUnloaded = true;
+  program.stop();
+  latest++;
+  showUnloaded();
+  faults.show(why, 'A web server has to hand out the files beside this one; the page in one file opens from a disk.', false);
+}
+
 async function start() {
   byId('unstarted').remove();
   listen();
   byId('made-of').textContent = `It is made of the proved program whose checksum begins with ${programSum.slice(0, 12)}.`;
-  const loading = loadModule();
   await loadLink();
-  try {
-    program = new Program(await loading, newWorker);
-  } catch (fault) {
-    showUnloaded();
-    faults.show(String(fault.message ?? fault), 'A web server has to hand out the files beside this one; the page in one file opens from a disk.');
-    return;
-  }
   ask();
 }
 

@@ -1,5 +1,6 @@
 // Where in a text a line of the program points.
 import {tokens} from './colours.js';
+import {sourceName} from './heads.js';
 
 // The index of a line and a column. Both count from 1, and columns count bytes.
 function indexAt(text, line, column) {
@@ -51,7 +52,8 @@ function rejectedPlace(told, steps) {
 
 // What a line of the program points to: {file, index}, or null. The file is 'source' or 'steps'.
 export function placeOf(told, source, steps) {
-  const found = /^(?:(steps )?line |source:)(\d+)(?: column |:)(\d+): /.exec(told);
+  const behind = told.startsWith(`${sourceName}:`) ? told.slice(sourceName.length) : told;
+  const found = /^(?:(steps )?line |:)(\d+)(?: column |:)(\d+): /.exec(behind);
   if (found) {
     const file = found[1] ? 'steps' : 'source';
     return {file, index: indexAt(file === 'steps' ? steps : source, Number(found[2]), Number(found[3]))};

@@ -15,8 +15,8 @@ function timeOf(milliseconds) {
 }
 
 // What stands there is the answer to an earlier call.
-export function showWorking() {
-  showStatus('working', '');
+export function showWorking(isLoaded) {
+  showStatus(isLoaded ? 'working' : 'loading the program', '');
   byId('stop').hidden = false;
   byId('panel').classList.add('stale');
 }

@@ -9,7 +9,7 @@ export class Tabs {
 
   constructor(onSelect) {
     this.#onSelect = onSelect;
-    this.#list.append(...commands.map(({name}) => this.#tab(name)));
+    this.#list.append(...commands.map(command => this.#tab(command)));
     this.#list.addEventListener('keydown', event => this.#press(event));
     this.show(this.selected);
   }
@@ -25,9 +25,9 @@ export class Tabs {
     byId('panel').setAttribute('aria-labelledby', `tab-${name}`);
   }
 
-  #tab(name) {
+  #tab({name, label = name}) {
     const tab = document.createElement('button');
-    Object.assign(tab, {type: 'button', role: 'tab', id: `tab-${name}`, textContent: name});
+    Object.assign(tab, {type: 'button', role: 'tab', id: `tab-${name}`, textContent: label});
     tab.dataset.command = name;
     tab.setAttribute('role', 'tab');
     tab.setAttribute('aria-controls', 'panel');

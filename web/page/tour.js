@@ -11,9 +11,9 @@ export const tour = [
     text: [
       'This program takes a number of seconds apart. `main` takes one number, `t`, and gives three. `choose` names them: hours, minutes and seconds.',
       'What stands behind `where` is the relation. It says when three numbers are right: together they make `t` seconds, and minutes and seconds lie ' +
-        'between 0 and 59. Nobody says how to find them.',
+        'between 0 and 59. Nobody says how to find them. The first line says in which edition of the language the text is written.',
     ],
-    example: 'seconds',
+    example: 'clock',
     tab: 'run',
     seen: [],
   },
@@ -21,9 +21,10 @@ export const tour = [
     title: 'Run it',
     text: [
       'Each input line has its reply beside it. `3661` seconds are an hour, a minute and a second: `1 1 1`.',
-      'Change a line, or add one below. It is answered as you type, and numbers may have up to 39 digits.',
+      'Change a line, or add one below. It is answered as you type, and numbers may have up to 39 digits. The plot below shows the replies to a whole ' +
+        'range of inputs.',
     ],
-    example: 'seconds',
+    example: 'clock',
     tab: 'run',
     seen: ['1 1 1'],
   },
@@ -34,7 +35,7 @@ export const tour = [
         'is proved. The relation says `0 <= h`, so no hours are right for less than nothing.',
       'Take that out, and `-1` is the last second of the day before.',
     ],
-    example: 'seconds',
+    example: 'clock',
     tab: 'run',
     seen: ['no solution at choose 1'],
     offer: {label: 'Take it out', from: '0 <= h && ', to: '', seen: ['-1 59 59']},
@@ -47,31 +48,66 @@ export const tour = [
       '`v0` is the first input and `v1` the second. There are two such numbers exactly where 2 divides `-sum - difference`: where both are even, or ' +
         'both are odd. The plot of the run tab shows the same.',
     ],
-    example: 'equations',
+    example: 'pair',
     tab: 'pre',
     seen: ['need (2 divides ((-1 * v0) + (-1 * v1)));'],
   },
   {
     title: 'Check finds the mistake',
     text: [
-      'How many minutes is it to the next noon or midnight? Each reply of this program is right, and yet there is a mistake in it: `wait <= 720`.',
+      'How many minutes is it to the next noon or midnight? Each reply of this program is right, and yet there is a mistake in it: `wait <= HALF_DAY`.',
       '`check` asks about all inputs at once. There always are outputs, but not only one: at noon itself both no wait and a wait of 720 minutes will ' +
-        'do. It names an input that shows it, and you can run that.',
+        'do. It names an input that shows it, and the button beside it runs that one.',
     ],
-    example: 'noon',
-    change: {from: 'wait < 720', to: 'wait <= 720'},
+    example: 'wait',
+    change: {from: 'wait < HALF_DAY', to: 'wait <= HALF_DAY'},
     tab: 'check',
     seen: ['choose 1: two outputs for t = -720: 0 and 720'],
   },
   {
     title: 'Fix it',
     text: [
-      'With `wait < 720` the wait is shorter than 12 hours. Now `check` says that there always are outputs, and that they are the only ones. Nothing ' +
-        'was sampled: it holds for each input.',
+      'A wait has to be shorter than half a day: `wait < HALF_DAY`. Write it so, or press the button.',
+      'Then `check` says that there always are outputs, and that they are the only ones. Nothing is sampled: it holds for each input.',
+    ],
+    example: 'wait',
+    change: {from: 'wait < HALF_DAY', to: 'wait <= HALF_DAY'},
+    tab: 'check',
+    seen: ['choose 1: two outputs for t = -720: 0 and 720'],
+    offer: {
+      label: 'Fix it',
+      from: 'wait <= HALF_DAY',
+      to: 'wait < HALF_DAY',
+      seen: ['choose 1: outputs always', 'choose 1: outputs unique'],
+    },
+  },
+  {
+    title: 'Given',
+    text: [
+      'Here are the sum and the difference again. `check` finds that there are no outputs for -1 and 0. Perhaps that is no mistake, because nobody will ' +
+        'ask for such numbers.',
+      'Then say so: what stands behind `given` is a condition on the inputs. `check` asks about inputs with this condition alone. For any others the ' +
+        'program still says that there is no solution.',
+    ],
+    example: 'pair',
+    tab: 'check',
+    seen: ['choose 1: no outputs for sum = -1, difference = 0'],
+    offer: {
+      label: 'Say so',
+      from: ' where x',
+      to: '\n  given 2 divides sum + difference\n  where x',
+      seen: ['choose 1: outputs always', 'choose 1: outputs unique'],
+    },
+  },
+  {
+    title: 'Take it home',
+    text: [
+      'A program goes on without this page. Save it with its lines, and the command beside it runs it in a shell. Or save its target: that holds no ' +
+        '`choose`, and `comfusy exec` only computes. The library answers from Python and from C.',
       'That is the end of the tour. Change the program, or take another one from the menu of examples.',
     ],
-    example: 'noon',
-    tab: 'check',
-    seen: ['choose 1: outputs always', 'choose 1: outputs unique'],
+    example: 'clock',
+    tab: 'home',
+    seen: [],
   },
 ];

@@ -1,25 +1,23 @@
-// What a command wrote, line by line. A line on a choose or a match leads to it.
-import {byId} from './texts.js';
+// What a command wrote, line by line, with colours. A line on a choose or a match leads to it.
+import {pieces} from './colours.js';
+import {button, byId, element} from './texts.js';
+
+const mostLines = 5000;
 
 function classOf(line) {
   if (/: (outputs always|outputs unique|covers all numbers|verified)$/.test(line)) return 'good';
   return /undecided/.test(line) ? 'dim' : 'bad';
 }
 
-function plainLine(line) {
-  const made = document.createElement('div');
-  made.textContent = line;
+function leadingLine(line, go) {
+  const made = button(line, go);
+  made.className = `line ${classOf(line)}`;
+  made.title = 'Go there';
   return made;
 }
 
-function leadingLine(line, go) {
-  const made = document.createElement('button');
-  made.type = 'button';
-  made.className = `line ${classOf(line)}`;
-  made.title = 'Go there';
-  made.textContent = line;
-  made.addEventListener('click', go);
-  return made;
+function colouredLine(line) {
+  return element('div', '', ...pieces(line).map(({text, kind}) => kind ? element('span', kind, text) : text));
 }
 
 // The inputs that a line of `check` names, as an input line for main; null where it names none, or not each input.
@@ -31,22 +29,19 @@ export function sampleOf(line, inputs) {
 }
 
 function tryButton(sample, onTry) {
-  const made = document.createElement('button');
-  made.type = 'button';
+  const made = button(`run ${sample}`, () => onTry(sample));
   made.className = 'try';
-  made.textContent = `run ${sample}`;
   made.title = 'Add this input line, and run the program';
-  made.addEventListener('click', () => onTry(sample));
   return made;
 }
 
 // Shows what was written. `placeOf` tells the place that a line points to, and `go` goes to it; `onTry` runs a sample.
 export function showWritten(out, {inputs, placeOf, go, onTry}) {
   const lines = out === '' ? [] : out.replace(/\n$/, '').split('\n');
-  const rows = lines.map(line => {
-    const place = placeOf(line), sample = sampleOf(line, inputs), row = document.createElement('div');
-    row.append(place ? leadingLine(line, () => go(place)) : plainLine(line), sample ? tryButton(sample, onTry) : '');
-    return row;
+  const rows = lines.slice(0, mostLines).map(line => {
+    const place = placeOf(line), sample = sampleOf(line, inputs);
+    return element('div', '', place ? leadingLine(line, () => go(place)) : colouredLine(line), sample ? tryButton(sample, onTry) : '');
   });
+  if (lines.length > mostLines) rows.push(element('div', 'dim', `and ${lines.length - mostLines} more lines`));
   byId('written').replaceChildren(...rows);
 }

@@ -1,6 +1,7 @@
 """Drives a headless Chromium over its pipe, without further packages."""
 
 import base64
+import contextlib
 import fcntl
 import json
 import os
@@ -26,14 +27,26 @@ class Page:
         self.folder = tempfile.TemporaryDirectory(prefix="comfusy-chromium-", ignore_cleanup_errors=True)
         self.kept, self.number, self.session, self.told, self.asked = b"", 0, None, [], []
         self._start(size)
-        target = next(it for it in self.call("Target.getTargets")["targetInfos"] if it["type"] == "page")
-        self.session = self.call("Target.attachToTarget", targetId=target["targetId"], flatten=True)["sessionId"]
-        for domain in ("Page", "Runtime", "Log", "Network"):
-            self.call(f"{domain}.enable")
+        self._attach(next(it for it in self.call("Target.getTargets")["targetInfos"] if it["type"] == "page")["targetId"])
         self.call("Emulation.setDeviceMetricsOverride", width=size[0], height=size[1], deviceScaleFactor=1, mobile=False)
         if dark:
             self.call("Emulation.setEmulatedMedia", features=[{"name": "prefers-color-scheme", "value": "dark"}])
         self.open(url)
+
+    def _attach(self, target):
+        """Turns to a page of the browser."""
+        self.session = self.call("Target.attachToTarget", targetId=target, flatten=True)["sessionId"]
+        for domain in ("Page", "Runtime", "Log", "Network"):
+            self.call(f"{domain}.enable")
+
+    @contextlib.contextmanager
+    def profile(self):
+        """Turns to a page of a new profile, which ends with its context."""
+        before, profile = self.session, self.call("Target.createBrowserContext")["browserContextId"]
+        self._attach(self.call("Target.createTarget", url="about:blank", browserContextId=profile)["targetId"])
+        yield
+        self.call("Target.disposeBrowserContext", browserContextId=profile)
+        self.session = before
 
     def _start(self, size):
         """Starts Chromium, which reads its descriptor 3 and writes its descriptor 4."""
@@ -78,7 +91,7 @@ class Page:
         """Returns the answer to a call of the browser's protocol."""
         self.number += 1
         said = {"id": self.number, "method": method, "params": params}
-        if self.session and not method.startswith("Target."):
+        if self.session and not method.startswith(("Target.", "Browser.")):
             said["sessionId"] = self.session
         data = json.dumps(said).encode() + b"\0"
         while data:
@@ -113,6 +126,10 @@ class Page:
         said = {"key": key, "code": key, "windowsVirtualKeyCode": code or ord(key), "modifiers": modifiers}
         self.call("Input.dispatchKeyEvent", type="rawKeyDown", **said)
         self.call("Input.dispatchKeyEvent", type="keyUp", **said)
+
+    def keep_downloads(self, folder):
+        """Has what the page saves put into a folder."""
+        self.call("Browser.setDownloadBehavior", behavior="allow", downloadPath=str(folder))
 
     def shot(self, path):
         """Keeps a picture of the page."""

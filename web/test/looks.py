@@ -10,9 +10,9 @@ PICTURES = TEST / "out"
 
 
 def take_pictures(reader):
-    for command in ("run", "compile", "pre", "check", "prove", "verify"):
+    for command in ("run", "compile", "pre", "check", "prove", "verify", "home"):
         reader.press(command)
-        reader.example("coins")
+        reader.example("change")
         time.sleep(0.3)
         reader.browser.shot(PICTURES / f"{command}.png")
 
@@ -27,12 +27,21 @@ def try_names(reader):
 
 
 def try_narrow(address, judge):
-    """On a narrow screen nothing sticks out, light or dark."""
+    """On a narrow screen nothing sticks out, light or dark, in no tab and with a fault."""
     for dark in (False, True):
-        with chromium.Page(f"{address}#tab=run&example=even", (360, 1500), dark) as browser:
+        name = "dark" if dark else "light"
+        with chromium.Page(f"{address}#tab=run&example=between", (360, 1500), dark) as browser:
             browser.wait("document.body.dataset.plotted")
-            judge.judge(f"page, narrow, {'dark' if dark else 'light'}", browser.eval("document.documentElement.scrollWidth <= 360"), True)
-            browser.shot(PICTURES / f"narrow-{'dark' if dark else 'light'}.png")
+            browser.shot(PICTURES / f"narrow-{name}.png")
+            judge.judge(f"page, narrow, {name}", browser.eval("document.documentElement.scrollWidth <= 360"), True)
+            for shown in ("tab=check&example=between", "tab=home&example=between", "tab=run&example=refused-factors"):
+                before = int(browser.eval("document.body.dataset.answered"))
+                browser.eval(f"location.hash = {shown!r}")
+                browser.wait(f"Number(document.body.dataset.answered) > {before}")
+                judge.judge(f"page, narrow, {name}, {shown}", browser.eval("document.documentElement.scrollWidth <= 360"), True)
+            seen = browser.eval("(box => box.scrollLeft > 0 && box.scrollWidth > box.clientWidth)(document.getElementById('fault-excerpt'))")
+            judge.judge(f"page, narrow, {name}, the caret below a long line", seen, True)
+            browser.shot(PICTURES / f"narrow-{name}-refused.png")
 
 
 def try_contrast(judge):

@@ -2,17 +2,21 @@
 
 import json
 import re
+import shutil
+import tempfile
 import time
 
 import chromium
+from home import try_home
 from looks import PICTURES, take_pictures, try_contrast, try_names, try_narrow
 from reader import Reader, lines_of
-from repository import SITE, answers_of, names_in, text_of
+from repository import ROOT, SITE, answers_of, names_in, text_of
+from server import serve
 
 
 def try_examples(reader):
     """Each example in each tab against the files of the repository."""
-    listed = json.loads(reader.eval("import('./examples.js').then(it => JSON.stringify(it.examples.map(example => example.name)))"))
+    listed = reader.eval("[...document.querySelectorAll('#examples option')].map(it => it.value)")
     names = [name for name in names_in(".") if name in listed]
     reader.judge.judge("page, there are examples", len(names) > 20, True)
     for name in names:
@@ -26,18 +30,47 @@ def try_examples(reader):
         reader.judge.judge(f"page, {name}, the text lies over its colours", fits, True)
 
 
+def told_of(err):
+    """Returns what the page shows of what the program writes to its error: the first line, the line of the source with its caret, and the help."""
+    what, *rest = err.strip("\n").split("\n")
+    helps = [line for line in rest if line.startswith("help: ")]
+    return what, "\n".join(line for line in rest if line not in helps), "".join(helps)
+
+
 def try_refused(reader):
-    """Each source that is refused, with its place; and a help for each."""
+    """Each source that is refused, with its place; and a help for each: that of the program, where it gives one."""
     reader.press("run")
     for name in names_in("refused"):
-        seen, wanted = reader.example(name), text_of(f"{name}.err").strip().replace(f"examples/{name}.cf:", "source:")
-        reader.judge.judge(f"page, {name}", [seen["told"], seen["replies"]], [wanted, []])
-        place = re.match(r"(?:line |source:)(\d+)", wanted)
+        seen, is_old = reader.example(name), not text_of(f"{name}.cf").startswith("comfusy 3")
+        what, excerpt, helped = told_of(text_of(f"{name}.err").replace(f"examples/{name}.cf:", "program.cf:"))
+        reader.judge.judge(f"page, {name}", [seen["told"], seen["excerpt"], seen["replies"], seen["old"]], [what, excerpt, [], is_old])
+        reader.judge.judge(f"page, {name}, a help", seen["help"], helped or seen["help"] or "a help")
+        place = re.match(r"(?:line |program.cf:)(\d+)", what)
         if place:
             reader.judge.judge(f"page, {name}, its line", [seen["rows"], len(seen["marks"])], [[int(place[1])], 1])
-        elif wanted.startswith("choose "):
+        elif what.startswith("choose "):
             reader.judge.judge(f"page, {name}, its choose", seen["marks"], ["choose"])
-        reader.judge.judge(f"page, {name}, a help", seen["help"] != "", True)
+
+
+def try_editions(reader):
+    """A text of language 2 that is refused may be begun as one of edition 3, where its faults tell more."""
+    reader.press("run")
+    reader.example("refused/chain")
+    seen = reader.settled("document.getElementById('fault-renew').click()")
+    reader.judge.judge("page, a chain in edition 3", [seen["told"], seen["replies"]], ["", []])
+    reader.example("refused/typo")
+    seen = reader.settled("document.getElementById('fault-renew').click()")
+    told = [seen["told"], seen["excerpt"].split("\n")[0].strip(), seen["marks"], seen["rows"], seen["old"]]
+    wanted = ["program.cf:4:9: unknown name: 'hours'", "where hours * 3600 + m * 60 + s == t", ["hours"], [4], False]
+    reader.judge.judge("page, a typo in edition 3", told, wanted)
+    seen = reader.typed("comfusy 3\n# \u00e4\ndef main(first: int): int = frist\n")
+    told = [seen["told"], seen["excerpt"].split("\n")[1].index("^"), seen["help"].split(".")[0], seen["marks"]]
+    reader.judge.judge("page, typed, edition 3", told, ["program.cf:3:29: unknown name: 'frist'", 28, "Nothing has this name here", ["frist"]])
+    seen = reader.typed("comfusy 3\ndef main(first: int): int = firs\n")
+    reader.judge.judge("page, typed, a name that is near", seen["help"], "help: did you mean 'first'?")
+    seen = reader.typed("comfusy 3\ndef main(a: int): int =\n")
+    reader.judge.judge("page, typed, too short", [seen["help"], seen["rows"]], ["help: the text ends too early: a ), an else, an in or a body is missing", [3]])
+    reader.browser.shot(PICTURES / "edition-3.png")
 
 
 def try_steps(reader):
@@ -84,6 +117,10 @@ def try_flags(reader):
     seen = reader.settled("document.querySelector('#flags input[value=\"--stats\"]').click()")
     tallies = [line.rstrip("0123456789") for line in seen["written"][-4:]]
     reader.judge.judge("page, --stats", tallies, ["# fold ", "# drop-needs ", "# drop-arms ", "# drop-lets "])
+    reader.press("run")
+    reader.example("clock")
+    seen = reader.settled("document.querySelector('#flags input[value=\"--jsonl\"]').click()")
+    reader.judge.judge("page, --jsonl", seen["replies"][0], '{"h": 1, "m": 1, "s": 1}')
 
 
 def try_check(reader):
@@ -168,7 +205,9 @@ def try_links(reader, address):
 
 def try_tour(reader):
     """Each step of the tour shows what it speaks of."""
-    steps = json.loads(reader.eval("import('./tour.js').then(it => JSON.stringify(it.tour))"))
+    text = (ROOT / "web/page/tour.js").read_text(encoding="utf-8").replace("export const", "const")
+    steps = json.loads(reader.eval(f"(() => {{ {text}; return JSON.stringify(tour); }})()"))
+    reader.judge.judge("page, tour, its steps", len(steps), 8)
     reader.settled("document.getElementById('open-tour').click()")
     marked = "[...new Set([...document.querySelectorAll('.seen')].map(it => it.firstChild.textContent))]"
     for number, step in enumerate(steps, 1):
@@ -177,7 +216,7 @@ def try_tour(reader):
         reader.judge.judge(f"page, tour, step {number}, the focus", reader.eval("document.activeElement.id"), "tour-title")
         if "offer" in step:
             reader.settled("document.getElementById('tour-offer').click()")
-            reader.judge.judge(f"page, tour, step {number}, the offer", reader.eval(marked), step["offer"]["seen"])
+            reader.judge.judge(f"page, tour, step {number}, the offer", sorted(reader.eval(marked)), sorted(step["offer"]["seen"]))
         reader.browser.shot(PICTURES / f"tour-{number}.png")
         if number < len(steps):
             reader.settled("document.getElementById('tour-next').click()")
@@ -192,8 +231,8 @@ def field(number):
 def try_plots(reader):
     """A strip over one input, a grid over two, and the value at the pointer and by the keys."""
     reader.press("run")
-    reader.judge.judge("page, a strip", reader.plotted(reader.choose("seconds")), "91 outputs, 30 no solution")
-    reader.plotted(reader.choose("stamps"))
+    reader.judge.judge("page, a strip", reader.plotted(reader.choose("clock")), "91 outputs, 30 no solution")
+    reader.plotted(reader.choose("postage"))
     legend = reader.plotted(reader.write(field(0), "0") + ";" + reader.write(field(1), "15"))
     reader.judge.judge("page, a strip from 0 to 15", legend, "12 outputs, 4 no solution")
     box = reader.eval("(box => [box.left, box.top, box.width, box.height])(document.querySelector('#plot svg').getBoundingClientRect())")
@@ -206,18 +245,18 @@ def try_plots(reader):
     reader.plotted(reader.choose("square"))
     legend = reader.plotted(reader.write(field(0), "0") + ";" + reader.write(field(1), "26087635650665564424"))
     reader.judge.judge("page, overflow in a strip", re.sub(r"\d+", "N", legend), "N outputs, N overflow")
-    reader.judge.judge("page, a grid", reader.plotted(reader.choose("even")), "221 outputs, 220 no solution")
+    reader.judge.judge("page, a grid", reader.plotted(reader.choose("between")), "221 outputs, 220 no solution")
     reader.browser.shot(PICTURES / "grid.png")
     reader.settled(reader.write(field(0), "11"))
     told = reader.eval("document.querySelector('#plot output').textContent")
     reader.judge.judge("page, no range", told, "These have to be whole numbers, the first at most the second.")
     slow = "let p = 999983 in let q = 999979 in choose (x: int, y: int) where a <= p * x + q * y && p * x + q * y <= b"
-    reader.plotted(reader.choose("even"))
+    reader.plotted(reader.choose("between"))
     reader.plotted(reader.write("document.getElementById('source-text')", f"def main(a: int, b: int): (int, int) = {slow}"))
     told = reader.eval("document.querySelector('#plot output').textContent")
     reader.judge.judge("page, a plot that takes long", told, "The plot was stopped: it took too long. A smaller range may do.")
     reader.press("run")
-    reader.example("split")
+    reader.example("teams")
     reader.judge.judge("page, no plot of sets", reader.eval("document.getElementById('plot').hidden"), True)
 
 
@@ -236,21 +275,48 @@ def try_single(judge):
         browser.shot(PICTURES / "single.png")
 
 
-def try_missing(address, judge):
+def try_missing(judge):
     """A page whose program is not handed out says so."""
-    with chromium.Page("about:blank") as browser:
-        browser.call("Network.setBlockedURLs", urls=["*.wasm"])
-        browser.open(address)
-        browser.wait("document.getElementById('status').textContent === 'the program cannot be loaded'")
-        judge.judge("page, without its program", browser.eval("document.getElementById('fault').hidden"), False)
+    with tempfile.TemporaryDirectory(prefix="comfusy-site-") as folder:
+        for name in ("index.html", "page.js"):
+            shutil.copy(SITE / name, folder)
+        with chromium.Page(f"{serve(None, folder)}/index.html") as browser:
+            browser.wait("document.getElementById('status').textContent === 'the program cannot be loaded'")
+            told = browser.eval("document.getElementById('fault-told').textContent")
+            judge.judge("page, without its program", told, "comfusy.wasm cannot be fetched: 404")
+
+
+def try_late(judge):
+    """A page whose script comes behind its program knows that the program is there: a call is stopped."""
+    with chromium.Page(f"{serve(None, late='/page.js')}/index.html") as browser:
+        browser.wait("document.body.dataset.answered")
+        try_stop(Reader(browser, judge))
+
+
+def try_policy(address, judge):
+    """Neither the page nor its worker may send anything to another host, and the page in one file to none."""
+    other = serve(None)
+    sends = f"fetch('{other}/index.html', {{mode: 'no-cors'}}).then(() => 'sent', () => 'refused')"
+    place = f"URL.createObjectURL(new Blob([{json.dumps(sends + '.then(postMessage)')}]))"
+    works = f"new Promise(done => {{ new Worker({place}).onmessage = event => done(event.data); }})"
+    for page in (address, (SITE / "single.html").as_uri()):
+        with chromium.Page(page) as browser:
+            browser.wait("document.body.dataset.answered")
+            judge.judge(f"page, {page}, what is sent elsewhere", [browser.eval(sends), browser.eval(works)], ["refused", "refused"])
+
+
+PARTS = (
+    try_names, try_examples, try_refused, try_editions, try_steps, try_typing, try_flags, try_check, try_stop, try_keys, try_tour, try_home, try_plots,
+    take_pictures,
+)
 
 
 def try_page(address, judge):
     with chromium.Page(address) as browser:
         browser.wait("document.body.dataset.answered")
-        print(f"web page: the first answer stands {browser.eval('document.body.dataset.first')} ms after opening; half a second where nothing else runs")
+        print(f"web page: the first answer stands {browser.eval('document.body.dataset.first')} ms after opening, beside what else runs here")
         reader = Reader(browser, judge)
-        for part in (try_names, try_examples, try_refused, try_steps, try_typing, try_flags, try_check, try_stop, try_keys, try_tour, try_plots, take_pictures):
+        for part in PARTS:
             part(reader)
         try_links(reader, address)
         judge.judge("page, the console", browser.told, [])
@@ -261,7 +327,9 @@ def try_page(address, judge):
 def run(judge, site):
     PICTURES.mkdir(exist_ok=True)
     try_page(f"{site}/index.html", judge)
-    try_missing(f"{site}/index.html", judge)
+    try_missing(judge)
+    try_late(judge)
+    try_policy(f"{site}/index.html", judge)
     try_narrow(f"{site}/index.html", judge)
     try_contrast(judge)
     try_single(judge)

@@ -2,14 +2,14 @@
 
 import json
 
-SEEN = """JSON.stringify({
-  told: document.getElementById('fault').hidden ? '' : document.getElementById('fault-told').textContent,
-  help: document.getElementById('fault').hidden ? '' : document.getElementById('fault-help').textContent,
+SEEN = """(shown => JSON.stringify({
+  told: shown('fault-told'), excerpt: shown('fault-excerpt'), help: shown('fault-help'), old: shown('fault-old') !== '',
   replies: [...document.querySelectorAll('#replies li')].map(it => it.textContent),
   written: [...document.querySelectorAll('#written > div')].map(it => it.firstChild ? it.firstChild.textContent : ''),
   marks: [...document.querySelectorAll('mark')].map(it => it.textContent),
   rows: [...document.querySelectorAll('.row.bad')].map(it => [...it.parentNode.children].indexOf(it) + 1),
-  status: document.getElementById('status').textContent})"""
+  status: document.getElementById('status').textContent}))(
+  id => document.getElementById('fault').hidden || document.getElementById(id).hidden ? '' : document.getElementById(id).textContent)"""
 
 
 class Reader:

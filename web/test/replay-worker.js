@@ -1,5 +1,5 @@
 // Makes packed calls again in a worker of a page, of which it is told the addresses {module, calls}. It posts {same, different}, or {broken}.
-import {runProgram} from '/host.js';
+import {runProgram} from '../page/host.js';
 import {replay} from './replay.js';
 
 const bytesOf = async address => new Uint8Array(await (await fetch(address)).arrayBuffer());

@@ -4,7 +4,6 @@ import gzip
 import hashlib
 import importlib.machinery
 import importlib.util
-import re
 
 from repository import ROOT, SITE
 
@@ -30,23 +29,15 @@ def judge_sums(judge):
 
 def judge_assembled(judge):
     """Judges each file but the modules: where one differs, `web/assemble` makes it anew."""
-    assemble = assembler()
-    files = assemble.plain_files()
-    files["single.html"] = assemble.single_page(files, (SITE / "comfusy32.wasm").read_bytes())
-    for name, data in files.items():
+    for name, data in assembler().pages(SITE).items():
         path = SITE / name
         judge.judge(f"assembled, {name}", path.exists() and path.read_bytes() == data, True)
-    page = files["index.html"].decode()
-    scripts = [files[name].decode() for name in files if name.endswith(".js") and name != "worker.js"]
-    loaded = sorted({name for text in scripts for name in assemble.imports_of(text)})
-    judge.judge("assembled, what is preloaded", re.findall(r'"modulepreload" href="(.*)"', page), loaded)
 
 
 def judge_size(judge):
-    """Judges what a visitor loads: all but the page in one file, with the larger of the two modules, each compressed."""
+    """Judges what a visitor loads: the page, with the larger of the two modules, each compressed."""
     sizes = {path.name: len(gzip.compress(path.read_bytes(), 9)) for path in SITE.iterdir()}
-    modules = [size for name, size in sizes.items() if name.endswith(".wasm")]
-    total = sum(size for name, size in sizes.items() if name.endswith((".js", ".css")) or name == "index.html") + max(modules)
+    total = sizes["index.html"] + sizes["page.js"] + max(size for name, size in sizes.items() if name.endswith(".wasm"))
     print(f"web size: a visitor loads {total} bytes, compressed")
     judge.judge("size, at most", total <= MOST_LOADED, True)
 
