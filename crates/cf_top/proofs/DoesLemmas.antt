@@ -22,11 +22,20 @@ use Rattle.cf_words.specs.declared.command.CommandKind.TheVariants.{Compile, Run
 use Rattle.cf_words.specs.declared.command.Flags.{Flags}
 use Rattle.cf_words.specs.declared.command.ReplyForm.{ReplyForm}
 use Rattle.cf_answer.proofs.CountLemmas.{one_fault}
-use Rattle.cf_answer.proofs.EndedLemmas.{told_front, long_front, one_name}
+use Rattle.cf_answer.proofs.EndedLemmas.{told_front, long_front}
 use Rattle.cf_answer.proofs.FaultLemmas.{failed}
 use Rattle.cf_answer.proofs.OutsideLemmas.{Untouched, nothing_read, none_read, none_written, no_fault, no_input_fault, no_out_fault, long_text}
 use Rattle.cf_answer.proofs.PassLemmas.{unpassed}
 use Rattle.cf_answer.proofs.StepLemmas.{left_of, left_told}
+
+-- a command on one file
+pub one_name : (kind : CommandKind) (flags : Flags) (form : ReplyForm) (name : List ℕ) → names_of (command_on kind flags form name) ≡ name ∷ []
+one_name Compile flags form name = refl
+one_name Run flags form name = refl
+one_name Pre flags form name = refl
+one_name Check flags form name = refl
+one_name Exec flags form name = refl
+one_name Prove flags form name = refl
 
 pub reads_a_file : (kind : CommandKind) (flags : Flags) (form : ReplyForm) (name : List ℕ) → names_of (command_on kind flags form name) ≡ [] → ⊥
 reads_a_file kind flags form name none = let one : names_of (command_on kind flags form name) ≡ name ∷ [] = one_name kind flags form name in cc

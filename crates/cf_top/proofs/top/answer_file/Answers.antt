@@ -1,8 +1,8 @@
 use Rattle.std.proofs.Common.{◌≡◌, ◌∙◌, refl, Some, [], arith, rules}
 use Rattle.cf_words.specs.Commands.{file_command}
 use Rattle.cf_answer.specs.declared.fault.Fault.TheVariants as fault
-use Rattle.cf_answer.proofs.EndedLemmas.{ended_does, ended_early, ended_usage, front_told, one_name, plain_file, plain_memory, plain_written}
-use Rattle.cf_top.proofs.DoesLemmas.{file_read, front_does, file_does, memory_does, untouched_by}
+use Rattle.cf_answer.proofs.EndedLemmas.{ended_does, ended_early, ended_usage, front_told, plain_file, plain_memory, plain_written}
+use Rattle.cf_top.proofs.DoesLemmas.{one_name, file_read, front_does, file_does, memory_does, untouched_by}
 use Rattle.cf_top.proofs.top.answer_file.Goals as goal
 
 -- the file was read as far as it may be
