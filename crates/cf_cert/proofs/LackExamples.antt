@@ -1,13 +1,16 @@
 -- Worked examples: when a step may lack memory.
-use Rattle.std.proofs.Common.{◌≡◌, refl, pos, true, Ok, Err, arith}
+use Rattle.std.proofs.Common.{◌≡◌, ◌≤◌, ◌^◌, refl, pos, [], ◌∷◌, Ok, Err, arith}
+use Rattle.cf_num.specs.Divisors.{gcd_by}
 use Rattle.cf_linear.specs.declared.refusal.LimitKind.TheVariants.{Rows, Columns, Search}
 use Rattle.cf_linear.specs.declared.refusal.Refusal.TheVariants.{Past, Limit}
-use Rattle.cf_linear.specs.Systems.{Answer}
-use Rattle.cf_elim.specs.declared.act.Act.TheVariants.{Clean, Mix, Last, Search as SearchAct, Drop}
+use Rattle.cf_linear.specs.Systems.{System, Answer}
+use Rattle.cf_linear.specs.Stages.{Limits}
+use Rattle.cf_linear.specs.Steps.{clean}
+use Rattle.cf_elim.specs.declared.act.Act.TheVariants.{Clean}
 use Rattle.cf_cert.specs.declared.next.ApplyFault.TheVariants.{Rejected, NoMemory}
 use Rattle.cf_cert.specs.declared.verdict.Why.TheVariants.{Unknown, Factor, Single, Held, Exact, Refused}
-use Rattle.cf_cert.specs.Applying.{Applied}
-use Rattle.cf_cert.specs.Stepping.{MayLackMemory, CleanIs, StepMayLack, StepIs}
+use Rattle.cf_cert.specs.Applying.{Applied, apply}
+use Rattle.cf_cert.specs.Stepping.{MayLackMemory, ApplyIs}
 
 -- names, unknowns and pairs are looked at before memory is asked for
 named : (MayLackMemory (Err Unknown) → ⊥) × (MayLackMemory (Err Factor) → ⊥) × (MayLackMemory (Err Single) → ⊥) × (MayLackMemory (Err Held) → ⊥)
@@ -29,16 +32,40 @@ numbers = tt
 made : (a : Answer) → MayLackMemory (Ok a)
 made a = tt
 
--- ---- by the step: a Clean makes its rows before they are counted
+-- ---- what a step answers
 abbrev long : Applied
 long = Err (Refused (Limit Rows 1001))
 
-clean_lacks : StepMayLack Clean long × CleanIs long (Err NoMemory) × StepIs Clean long (Err NoMemory)
-clean_lacks = (tt, tt, tt)
-
-others : (StepMayLack (Mix 1 2 (pos 1) (pos 0) (pos 0) (pos 1)) long → ⊥) × (StepMayLack (Last 0) long → ⊥) × (StepMayLack (SearchAct 1 true) long → ⊥)
-    × (StepIs (Drop 1) long (Err NoMemory) → ⊥)
-others = ((λ h. omega (arith, h)), (λ h. omega (arith, h)), (λ h. omega (arith, h)), λ h. omega (arith, h))
-
-told : StepIs (Drop 1) long (Err (Rejected (Refused (Limit Rows 1001))))
+-- a count past its limit is told, and is no want of memory
+told : ApplyIs long (Err (Rejected (Refused (Limit Rows 1001))))
 told = refl
+
+told_alone : ApplyIs long (Err NoMemory) → ⊥
+told_alone h = omega (arith, h)
+
+-- so too of a Clean
+abbrev small : Limits
+small = record { search = 1; rows = 1; columns = 3 }
+
+-- c1 is known, c2 is not, and c1 + 2 * c2 >= 0 gets a column
+abbrev untidy : System
+untidy = record {
+  known = 0 ∷ 1 ∷ [];
+  unknown = 2 ∷ [];
+  next = 3;
+  equations = [];
+  inequalities = ((1, pos 1) ∷ (2, pos 2) ∷ []) ∷ [];
+  needs = 0;
+}
+
+clean_told : ApplyIs (apply small 1 untidy Clean) (Err (Rejected (Refused (Limit Columns 4))))
+unfolding apply clean gcd_by
+clean_told = refl
+
+clean_told_alone : ApplyIs (apply small 1 untidy Clean) (Err NoMemory) → ⊥
+unfolding apply clean gcd_by
+clean_told_alone h = let l : 2 ^ 64 ≤ 4 = h in omega (arith, l)
+
+clean_lacks : ApplyIs (apply (record { search = 1; rows = 1; columns = 4 }) 1 untidy Clean) (Err NoMemory)
+unfolding apply clean gcd_by
+clean_lacks = tt

@@ -1,6 +1,7 @@
 pub mod MixLaws
 pub mod LastLaws
 pub mod ApplyLaws
+pub mod CountLaws
 pub mod StepLaws
 pub mod WayLaws
 pub mod FollowLaws
@@ -15,3 +16,4 @@ pub mod MarkLaws
 mod PutLaws
 mod LimitExamples
 mod LackExamples
+mod CountExamples

@@ -36,7 +36,7 @@ use Rattle.cf_cert.specs.declared.verdict.Why.{Why}
 use Rattle.cf_cert.specs.declared.verdict.Why.TheVariants.{Unknown, Factor, Held, Exact, Refused}
 use Rattle.cf_cert.specs.Applying.{Applied, rejected_if, refused_by, is_held, has_inexact, determinant, determinant_passes, last_of, last_at, mix_kept, mix_applied}
 use Rattle.cf_cert.specs.Applying.{on_unheld, clean_applied, search_kept, search_applied, drop_applied, apply}
-use Rattle.cf_cert.specs.Stepping.{MayLackMemory, ApplyIs, CleanIs, StepMayLack, StepIs, fault_of, unheld_fault, times_great, DeterminantIs, with_first, IsFront}
+use Rattle.cf_cert.specs.Stepping.{MayLackMemory, ApplyIs, fault_of, unheld_fault, times_great, DeterminantIs, with_first, IsFront}
 use Rattle.cf_cert.proofs.ApplyLaws.{column_in, free_from, ready_after}
 use Rattle.cf_cert.proofs.LastLaws.{formed_front}
 
@@ -64,16 +64,23 @@ pub count_rejects : (o : Option Refusal) (a : Applied) (e : ElimFault) → MayLa
 count_rejects o a (ElimRefused r) k h = ap (λ x. refused_by x a) h
 count_rejects o a ElimNoMemory k h = counted_lacks o a h k
 
-pub clean_rejects : (o : Option Refusal) (a : Applied) (e : ElimFault) → CountIs o (Err e) → CleanIs (refused_by o a) (Err (fault_of e))
-clean_rejects o a (ElimRefused r) h = ap (λ x. refused_by x a) h
-clean_rejects o a ElimNoMemory h = tt
-
 pub counted_on : (o : Option Refusal) (a b : Answer) → o ≡ None → a ≡ b → refused_by o (Ok a) ≡ Ok b
 counted_on o a b e f = ap (λ x. refused_by x (Ok a)) e ∙ ap Ok f
 
 -- what is kept within the limit of numbers
 pub kept_on : (b : Bool) (w : Why) (x y : Answer) → b ≡ false → x ≡ y → rejected_if b w (Ok x) ≡ Ok y
 kept_on b w x y e f = keeps b w (Ok x) e ∙ ap Ok f
+
+-- ---- a Clean
+module _ (m : System) where
+  pub clean_rejects : (f : ElimFault) → CountIs (first_count limits (clean m).system) (Err f) → ApplyIs (clean_applied limits m) (Err (fault_of f))
+  clean_rejects f h = count_rejects (first_count limits (clean m).system) (Ok (clean m)) f tt h
+
+  pub clean_on : (a : Answer) → first_count limits (clean m).system ≡ None → clean m ≡ a → clean_applied limits m ≡ Ok a
+  clean_on a e f = counted_on (first_count limits (clean m).system) (clean m) a e f
+
+  pub clean_lacks : first_count limits (clean m).system ≡ None → MayLackMemory (clean_applied limits m)
+  clean_lacks e = subst (λ o. MayLackMemory (refused_by o (Ok (clean m)))) (sym e) tt
 
 -- ---- mix
 module _ (m : System) (x y : ℕ) (a b c d : ℤ) where
@@ -375,24 +382,7 @@ pub apply_drop : (n : ℕ) (m : System) (x : ℕ) → apply limits n m (Drop x) 
 unfolding apply
 apply_drop n m x = refl
 
-pub clean_is : (a : Applied) (r : Result Next ApplyFault) → CleanIs a r → StepIs Clean a r
-clean_is a (Ok n) h = h
-clean_is a (Err (Rejected w)) h = h
-clean_is a (Err NoMemory) h = tt
-
-pub step_is : (act : Act) (a : Applied) (r : Result Next ApplyFault) → (MayLackMemory a → StepMayLack act a) → ApplyIs a r → StepIs act a r
-step_is act a (Ok n) lacks h = h
-step_is act a (Err (Rejected w)) lacks h = h
-step_is act a (Err NoMemory) lacks h = lacks h
-
-pub made_may_lack : (act : Act) (a : Answer) → StepMayLack act (Ok a)
-made_may_lack Clean a = tt
-made_may_lack (Mix x y k l m n) a = tt
-made_may_lack (Last e) a = tt
-made_may_lack (SearchAct x lower) a = tt
-made_may_lack (Drop x) a = tt
-
-pub stays_ready : (n : ℕ) (m : System) (act : Act) (r : Result Next ApplyFault) → IsReady m → StepIs act (apply limits n m act) r →
+pub stays_ready : (n : ℕ) (m : System) (act : Act) (r : Result Next ApplyFault) → IsReady m → ApplyIs (apply limits n m act) r →
     IfOk r (λ x. IsReady (system_of x.system))
 stays_ready n m act (Ok x) i h = ready_after n m act (made_answer (system_of x.system) x.made) i h
 stays_ready n m act (Err e) i h = tt

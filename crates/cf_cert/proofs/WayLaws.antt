@@ -27,7 +27,7 @@ use Rattle.cf_cert.specs.declared.verdict.Why.TheVariants.{Left}
 use Rattle.cf_cert.specs.Applying.{Applied, apply}
 use Rattle.cf_cert.specs.Certifying.{Followed, is_over, after_first, follow, unless_refused, eliminated}
 use Rattle.cf_cert.specs.Following.{CaseIs, IsAdded, IsAdvanced, WayIs, at_step, end_of}
-use Rattle.cf_cert.specs.Stepping.{StepIs, fault_of}
+use Rattle.cf_cert.specs.Stepping.{ApplyIs, fault_of}
 use Rattle.cf_cert.proofs.ApplyLaws.{ready_after}
 
 -- ---- what all steps make
@@ -47,9 +47,9 @@ advanced v w x act r e h =
     }
 
 -- a step that did not apply
-pub way_faulted : (v : Way) (act : Act) (a : Applied) (f : ApplyFault) → StepIs act a (Err f) → WayIs v act a (Err f)
-way_faulted v act a (Rejected w) h = h
-way_faulted v act a NoMemory h = h
+pub way_faulted : (v : Way) (a : Applied) (f : ApplyFault) → ApplyIs a (Err f) → WayIs v a (Err f)
+way_faulted v a (Rejected w) h = h
+way_faulted v a NoMemory h = h
 
 -- ---- on the way
 -- the steps from number `step` on go on from the case after i steps
@@ -121,7 +121,7 @@ way_more m acts i step act v w l e h o =
     }
 
 way_fails : (m : System) (acts : List Act) (i step : ℕ) (act : Act) (v : Way) (f : ApplyFault) → i < length acts → act ≡ get_or acts i act →
-    WayIs v act (apply limits v.tuples (system_of v.system) act) (Err f) → IsOnWay m acts i step v → CaseIs (follow limits 1 1 m acts) (Err (at_step step f))
+    WayIs v (apply limits v.tuples (system_of v.system) act) (Err f) → IsOnWay m acts i step v → CaseIs (follow limits 1 1 m acts) (Err (at_step step f))
 way_fails m acts i step act v NoMemory l e h o = tt
 way_fails m acts i step act v (Rejected w) l e h o =
     let a = whole_answer (system_of v.system) v.whole in
@@ -173,7 +173,7 @@ pub way_more_at : (m : System) (acts : List Act) (i step : ℕ) (d : Act) (v w :
 way_more_at m acts i step d v w l h o = way_more m acts i step (get_or acts i d) v w l (own_get acts i d l) h o
 
 pub way_fails_at : (m : System) (acts : List Act) (i step : ℕ) (d : Act) (v : Way) (f : ApplyFault) → i < length acts →
-    WayIs v (get_or acts i d) (apply limits v.tuples (system_of v.system) (get_or acts i d)) (Err f) → IsOnWay m acts i step v →
+    WayIs v (apply limits v.tuples (system_of v.system) (get_or acts i d)) (Err f) → IsOnWay m acts i step v →
     CaseIs (follow limits 1 1 m acts) (Err (at_step step f))
 way_fails_at m acts i step d v f l h o = way_fails m acts i step (get_or acts i d) v f l (own_get acts i d l) h o
 

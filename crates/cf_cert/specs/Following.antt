@@ -4,7 +4,6 @@ use Rattle.std.specs.List.{fold}
 use Rattle.cf_linear.specs.Stages.{times_bound}
 use Rattle.cf_linear.specs.Systems.{System, then_answer}
 use Rattle.cf_linear.specs.Views.{system_of, bound_of}
-use Rattle.cf_elim.specs.declared.act.Act.{Act}
 use Rattle.cf_elim.specs.declared.output.RunOutput.{RunOutput}
 use Rattle.cf_elim.specs.declared.output.StepOutput.{StepOutput}
 use Rattle.cf_elim.specs.Stages.{IsReady, made_answer, whole_answer}
@@ -17,7 +16,7 @@ use Rattle.cf_cert.specs.declared.next.Next.{Next}
 use Rattle.cf_cert.specs.declared.verdict.Why.TheVariants.{Left}
 use Rattle.cf_cert.specs.Applying.{Applied}
 use Rattle.cf_cert.specs.Certifying.{Followed, is_over}
-use Rattle.cf_cert.specs.Stepping.{StepMayLack}
+use Rattle.cf_cert.specs.Stepping.{MayLackMemory}
 
 -- what the steps make, or the first one that does not apply, or want of memory
 abbrev pub CaseIs : Followed → Result StepOutput CaseFault → Type 0
@@ -47,10 +46,10 @@ pub record IsAdvanced (v : Way) (a : Applied) (w : Way) : Type 0 where
   pub whole : whole_answer (system_of w.system) w.whole ≡ then_answer (whole_answer (system_of v.system) v.whole) (made_answer (system_of w.system) made)
 
 -- one step more, or why it does not apply, or want of memory
-abbrev pub WayIs : Way → Act → Applied → Result Way ApplyFault → Type 0
-WayIs v act a (Ok w) = IsAdvanced v a w
-WayIs v act a (Err (Rejected w)) = a ≡ Err w
-WayIs v act a (Err NoMemory) = StepMayLack act a
+abbrev pub WayIs : Way → Applied → Result Way ApplyFault → Type 0
+WayIs v a (Ok w) = IsAdvanced v a w
+WayIs v a (Err (Rejected w)) = a ≡ Err w
+WayIs v a (Err NoMemory) = MayLackMemory a
 
 -- the end of the case, which has the number i
 abbrev pub end_of : Way → ℕ → Followed

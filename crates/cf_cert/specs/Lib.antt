@@ -6,3 +6,4 @@ pub mod Judging
 pub mod Laws
 pub mod Verifying
 pub mod Marks
+pub mod Counting

@@ -10,8 +10,6 @@ use Rattle.cf_linear.specs.Steps.{has_column}
 use Rattle.cf_linear.specs.Views.{system_of}
 use Rattle.cf_bounds.specs.Sides.{is_great}
 use Rattle.cf_elim.specs.Stages.{made_answer}
-use Rattle.cf_elim.specs.declared.act.Act.{Act}
-use Rattle.cf_elim.specs.declared.act.Act.TheVariants.{Clean, Mix, Last, Search as SearchAct, Drop}
 use Rattle.cf_elim.specs.declared.fault.ElimFault.{ElimFault}
 use Rattle.cf_elim.specs.declared.fault.ElimFault.TheVariants.{Refused as ElimRefused, NoMemory as ElimNoMemory}
 use Rattle.cf_cert.specs.declared.next.ApplyFault.{ApplyFault}
@@ -38,25 +36,6 @@ abbrev pub ApplyIs : Applied → Result Next ApplyFault → Type 0
 ApplyIs a (Ok n) = a ≡ Ok (made_answer (system_of n.system) n.made)
 ApplyIs a (Err (Rejected w)) = a ≡ Err w
 ApplyIs a (Err NoMemory) = MayLackMemory a
-
--- the same of a Clean, which makes its rows before they are counted
-abbrev pub CleanIs : Applied → Result Next ApplyFault → Type 0
-CleanIs a (Ok n) = a ≡ Ok (made_answer (system_of n.system) n.made)
-CleanIs a (Err (Rejected w)) = a ≡ Err w
-CleanIs a (Err NoMemory) = Unit {0}
-
--- when a step may lack memory, and what each step answers
-abbrev pub StepMayLack : Act → Applied → Type 0
-StepMayLack Clean a = Unit {0}
-StepMayLack (Mix x y k l m n) a = MayLackMemory a
-StepMayLack (Last e) a = MayLackMemory a
-StepMayLack (SearchAct x lower) a = MayLackMemory a
-StepMayLack (Drop x) a = MayLackMemory a
-
-abbrev pub StepIs : Act → Applied → Result Next ApplyFault → Type 0
-StepIs act a (Ok n) = a ≡ Ok (made_answer (system_of n.system) n.made)
-StepIs act a (Err (Rejected w)) = a ≡ Err w
-StepIs act a (Err NoMemory) = StepMayLack act a
 
 -- the refusal of an elimination as that of a step
 abbrev pub fault_of : ElimFault → ApplyFault

@@ -4,7 +4,7 @@ ghost use Rattle.cf_linear.specs.Stages.{limits};
 ghost use Rattle.cf_linear.specs.Views.{system_of};
 ghost use Rattle.cf_elim.specs.Stages.{IsReady};
 ghost use Rattle.cf_cert.specs.Applying.{apply, IsWithinAct};
-ghost use Rattle.cf_cert.specs.Stepping.{StepIs};
+ghost use Rattle.cf_cert.specs.Stepping.{ApplyIs};
 
 use crate::bounding::{drop_unknown, search_side};
 use crate::cleaning::clean_rows;
@@ -21,11 +21,11 @@ use std::alloc::Global;
 /// # Errors
 /// `Rejected` exactly where the step does not apply, with the first reason, and `NoMemory` where memory
 /// ran out. It is asked for behind the names of a step, the pairs of a drop, the tuples of a search and the
-/// rows and columns that a step leaves, but a Clean makes its rows before they are counted.
+/// rows and columns that a step leaves.
 pub fn apply(alloc: Global, system: System, tuples: u64, act: Act) -> Result<Next, ApplyFault>
     requires ready { IsReady (system_of system) }
     requires within { IsWithinAct act }
-    ensures applied { StepIs act (apply limits tuples (system_of system) act) result }
+    ensures applied { ApplyIs (apply limits tuples (system_of system) act) result }
     ensures ready { IfOk result (λ n. IsReady (system_of n.system)) }
 {
     step(alloc, system, tuples, act)
@@ -35,7 +35,7 @@ pub fn apply(alloc: Global, system: System, tuples: u64, act: Act) -> Result<Nex
 fn step(alloc: Global, system: System, tuples: u64, act: Act) -> Result<Next, ApplyFault>
     requires ready { IsReady (system_of system) }
     requires within { IsWithinAct act }
-    ensures { StepIs act (apply limits tuples (system_of system) act) result }
+    ensures { ApplyIs (apply limits tuples (system_of system) act) result }
 {
     match act {
         Act::Clean => clean_rows(alloc, system),

@@ -194,7 +194,8 @@ fn has_inexact(rows: &[Row], x: u32) -> bool
     )
 }
 
-fn both(left: bool, right: bool) -> bool
+// Whether both hold.
+pub(crate) fn both(left: bool, right: bool) -> bool
     ensures { result ≡ (left && right) }
 {
     left && right

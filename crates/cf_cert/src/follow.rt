@@ -85,7 +85,7 @@ fn at_step(step: u32, fault: ApplyFault) -> CaseFault
 fn advance(alloc: Global, way: Way, act: &Act) -> Result<Way, ApplyFault>
     requires ready { IsReady (system_of way.system) }
     requires within { IsWithinAct act.now }
-    ensures { WayIs way act.now (apply limits way.tuples (system_of way.system) act.now) result }
+    ensures { WayIs way (apply limits way.tuples (system_of way.system) act.now) result }
 {
     let Way {
         system,

@@ -6,6 +6,7 @@ mod arms;
 mod blocks;
 mod bounding;
 mod cleaning;
+mod counting;
 mod ending;
 mod fault;
 mod follow;
