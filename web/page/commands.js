@@ -16,7 +16,7 @@ export const commands = [
     question: 'What does the program reply to each input line?',
     reads: 'lines',
     shows: 'replies',
-    flags: passes,
+    flags: [...passes, {flag: '--jsonl', tells: 'write each reply as JSON'}],
   },
   {
     name: 'compile',
