@@ -1,0 +1,9 @@
+pub mod TermLists
+pub mod ReadsBack
+pub mod PieceLaws
+pub mod NameLaws
+pub mod CommentExamples
+pub mod FileExamples
+pub mod FilterExamples
+pub mod PrintedExamples
+pub mod PythonExamples

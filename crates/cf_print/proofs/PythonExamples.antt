@@ -1,0 +1,241 @@
+-- Worked examples of printed Python: whole files.
+use Rattle.std.specs.Prelude.{ℕ, ℤ, pos, negsuc, ◌≡◌, Bool, true, false, List, [], ◌∷◌, ◌++◌, refl, codes}
+use Rattle.std.specs.Fmt.{digits}
+use Rattle.cf_tree.specs.declared.base.Base.{Base}
+use Rattle.cf_tree.specs.declared.base.Base.TheVariants.{Int, Bool as Truth, Set}
+use Rattle.cf_tree.specs.declared.base.Order.TheVariants.{Eq, Ne, Lt, Le, Gt, Ge}
+use Rattle.cf_tree.specs.CodeTree.{CodeTree, code_lit, code_truth, code_var, code_set_of, code_tuple, code_sum, code_sub, code_mul, code_neg, code_div, code_mod, code_min, code_max, code_compare, code_divides, code_and, code_or, code_not, code_union, code_inter, code_diff, code_subset, code_card, code_slice, code_fresh, code_if, codes_of}
+use Rattle.cf_stmt.specs.Blocks.{Block, give, none, leave, bind, part, join, test, arm}
+use Rattle.cf_range.specs.Ranges.{whole, between as from_to}
+use Rattle.cf_print.specs.Terms.{text}
+use Rattle.cf_print.specs.Expressions.{Sight, term_of}
+use Rattle.cf_print.specs.Statements.{Setting, Place, Draft, block}
+use Rattle.cf_print.specs.Printed.{Printing, Names, setting_of, printed}
+use Rattle.cf_print.specs.declared.exit.Exit.TheVariants.{Falls}
+use Rattle.cf_print.specs.declared.emission.Language.TheVariants.{C, Python}
+use Rattle.cf_print.specs.declared.table.TheConstants.{PYTHON, C as C_TABLE}
+
+abbrev var : ℕ → CodeTree
+var x = code_var x
+
+abbrev num : ℕ → CodeTree
+num k = code_lit (pos k)
+
+abbrev sum : List CodeTree → CodeTree
+sum cs = code_sum (codes_of cs)
+
+-- a number x of any size, one y from 0 to 9, a truth value p, and sets s and u
+abbrev known : Sight
+known = record {
+  names = codes "x" ∷ codes "y" ∷ codes "p" ∷ codes "s" ∷ codes "u" ∷ [];
+  bases = Int ∷ Int ∷ Truth ∷ Set ∷ Set ∷ [];
+  ranges = whole ∷ from_to (pos 0) (pos 9) ∷ whole ∷ whole ∷ whole ∷ [];
+}
+
+abbrev python : CodeTree → List ℕ
+python c = text (term_of PYTHON known c)
+
+abbrev in_c : CodeTree → List ℕ
+in_c c = text (term_of C_TABLE known c)
+
+-- ---- numbers
+
+checked_sum : python (sum (var 0 ∷ var 1 ∷ [])) ≡ codes "fit(x + y)"
+unfolding digits
+checked_sum = refl
+
+free_sum : python (sum (var 1 ∷ num 5 ∷ [])) ≡ codes "y + 5"
+unfolding digits
+free_sum = refl
+
+taken_off : python (sum (var 1 ∷ code_neg (var 1) ∷ code_lit (negsuc 4) ∷ [])) ≡ codes "y - y - 5"
+unfolding digits
+taken_off = refl
+
+turned : python (sum (code_neg (var 1) ∷ num 3 ∷ [])) ≡ codes "3 - y"
+unfolding digits
+turned = refl
+
+negative_factor : python (sum (var 1 ∷ code_mul (code_lit (negsuc 1)) (var 1) ∷ [])) ≡ codes "y - 2 * y"
+unfolding digits
+negative_factor = refl
+
+difference : python (code_sub (var 1) (code_sub (num 1) (var 1))) ≡ codes "y - (1 - y)"
+unfolding digits
+difference = refl
+
+checked_difference : python (code_sub (var 0) (num 1)) ≡ codes "fit(x - 1)"
+unfolding digits
+checked_difference = refl
+
+checked_product : python (code_mul (code_neg (var 0)) (var 1)) ≡ codes "fit(-x * y)"
+unfolding digits
+checked_product = refl
+
+product : python (code_mul (sum (var 1 ∷ num 1 ∷ [])) (var 1)) ≡ codes "(y + 1) * y"
+unfolding digits
+product = refl
+
+free_product : python (code_mul (num 7) (var 1)) ≡ codes "7 * y"
+unfolding digits
+free_product = refl
+
+negation : python (code_neg (sum (var 1 ∷ num 1 ∷ []))) ≡ codes "-(y + 1)"
+unfolding digits
+negation = refl
+
+quotient : python (code_div (sum (var 1 ∷ num 1 ∷ [])) (pos 60)) ≡ codes "(y + 1) // 60"
+unfolding digits
+quotient = refl
+
+remainder : python (code_mod (code_div (var 0) (pos 4)) (pos 7)) ≡ codes "x // 4 % 7"
+unfolding digits
+remainder = refl
+
+least : python (code_min (codes_of (var 0 ∷ num 3 ∷ var 1 ∷ []))) ≡ codes "min(x, 3, y)"
+unfolding digits
+least = refl
+
+greatest : python (code_max (codes_of (var 0 ∷ num 3 ∷ []))) ≡ codes "max(x, 3)"
+unfolding digits
+greatest = refl
+
+-- ---- truth values
+
+comparison : python (code_compare Le (var 0) (code_if (var 2) (num 1) (num 2))) ≡ codes "x <= (1 if p else 2)"
+unfolding digits
+comparison = refl
+
+divides : python (code_divides (pos 4) (sum (var 1 ∷ num 1 ∷ []))) ≡ codes "(y + 1) % 4 == 0"
+unfolding digits
+divides = refl
+
+mixed : python (code_and (code_or (var 2) (code_truth false)) (code_or (var 2) (code_and (var 2) (var 2)))) ≡ codes "(p or False) and (p or p and p)"
+unfolding digits
+mixed = refl
+
+opposite : python (code_not (code_and (code_compare Ge (var 0) (num 0)) (code_divides (pos 2) (var 0)))) ≡ codes "x < 0 or x % 2 != 0"
+unfolding digits
+opposite = refl
+
+denied : python (code_not (code_and (var 2) (code_compare Ge (var 0) (num 0)))) ≡ codes "not (p and x >= 0)"
+unfolding digits
+denied = refl
+
+twice_denied : python (code_not (code_not (var 2))) ≡ codes "p"
+unfolding digits
+twice_denied = refl
+
+choice : python (code_if (code_if (var 2) (var 2) (var 2)) (var 1) (num 2)) ≡ codes "y if (p if p else p) else 2"
+unfolding digits
+choice = refl
+
+-- ---- sets
+
+no_set : python (code_set_of (codes_of [])) ≡ codes "frozenset()"
+unfolding digits
+no_set = refl
+
+set : python (code_set_of (codes_of (num 1 ∷ var 0 ∷ []))) ≡ codes "frozenset({1, x})"
+unfolding digits
+set = refl
+
+operations : python (code_diff (code_union (codes_of (var 3 ∷ var 4 ∷ []))) (code_inter (codes_of (var 3 ∷ code_diff (var 3) (var 4) ∷ [])))) ≡
+    codes "(s | u) - (s & s - u)"
+unfolding digits
+operations = refl
+
+sets_differ : python (code_not (code_compare Eq (var 3) (var 4))) ≡ codes "s != u"
+unfolding digits
+sets_differ = refl
+
+subset : python (code_not (code_subset (var 3) (var 4))) ≡ codes "not s <= u"
+unfolding digits
+subset = refl
+
+calls : python (code_slice (code_fresh (var 3) (num 2)) (code_card (var 4)) (num 1)) ≡ codes "cut(fresh(s, 2), len(u), 1)"
+unfolding digits
+calls = refl
+
+-- ---- C
+
+c_sum : in_c (sum (var 0 ∷ var 1 ∷ num 1 ∷ [])) ≡ codes "add(add(x, y, &past), 1, &past)"
+unfolding digits
+c_sum = refl
+
+c_numerals : in_c (sum (num 2 ∷ num 3 ∷ [])) ≡ codes "add(2, 3, &past)"
+unfolding digits
+c_numerals = refl
+
+c_long : in_c (num 2147483648) ≡ codes "2147483648LL"
+unfolding digits
+c_long = refl
+
+c_halves : in_c (code_lit (pos 18446744073709551617)) ≡ codes "from_halves(1, 1ULL)"
+unfolding digits
+c_halves = refl
+
+c_most : in_c (code_lit (pos 170141183460469231731687303715884105727)) ≡ codes "MAX"
+unfolding digits
+c_most = refl
+
+c_down : in_c (code_div (var 0) (pos 60)) ≡ codes "div_down(x, 60)"
+unfolding digits
+c_down = refl
+
+c_natural : in_c (code_mod (var 1) (pos 7)) ≡ codes "y % 7"
+unfolding digits
+c_natural = refl
+
+c_least : in_c (code_min (codes_of (var 0 ∷ num 3 ∷ var 1 ∷ []))) ≡ codes "least(least(x, 3), y)"
+unfolding digits
+c_least = refl
+
+c_mixed : in_c (code_or (code_or (var 2) (code_and (var 2) (var 2))) (code_not (var 2))) ≡ codes "p || (p && p) || !p"
+unfolding digits
+c_mixed = refl
+
+c_choice : in_c (code_if (var 2) (num 1) (var 1)) ≡ codes "p ? 1 : y"
+unfolding digits
+c_choice = refl
+
+-- ---- statements
+
+abbrev no_names : Names
+no_names = record { params = codes "x" ∷ []; outputs = λ n. []; results = [] }
+
+-- two arms: the number less 10 where that is not negative, or else itself where it is not negative
+abbrev two_arms : Block
+two_arms =
+    arm [] (bind (give (code_sub (var 0) (num 10))) (test (give (code_compare Ge (var 1) (num 0))) (give (var 1)) leave))
+    (arm [] (test (give (code_compare Ge (var 0) (num 0))) (give (var 0)) leave) (none 7))
+
+abbrev program : Block → Printing
+program b = record {
+  language = Python;
+  has_main = false;
+  name = codes "answer";
+  source = codes "# A \"test\".\n\ndef";
+  params = Int ∷ [];
+  results = Int ∷ [];
+  body = b;
+}
+
+abbrev lines_of : Block → List ℕ
+lines_of b = (block (setting_of Python no_names) (record { names = codes "x" ∷ []; bases = Int ∷ []; ranges = whole ∷ [] }) b
+    (record { depth = 1; exit = Falls; arms = 0; outputs = []; pointers = [] })
+    (record { lines = []; taken = codes "x" ∷ []; functions = []; numbers = [] })).lines
+
+arms : lines_of two_arms ≡ codes "    # Arm 1.\n    n1 = fit(x - 10)\n    if n1 >= 0:\n        return n1\n    # Arm 2.\n    if x < 0:\n        raise NoSolution(7)\n    return x\n"
+unfolding digits
+arms = refl
+
+search : lines_of (arm (6 ∷ []) (test (give (code_compare Ge (sum (var 1 ∷ var 1 ∷ [])) (var 0))) (give (var 1)) leave) (none 3)) ≡
+    codes "    for i in range(6):\n        if i + i < x:\n            continue\n        return i\n    raise NoSolution(3)\n"
+unfolding digits
+search = refl
+
+whole_file : printed no_names (program (give (code_div (var 0) (pos 2)))) ≡
+    codes "\"\"\"Written by Comfusy from this source; each change belongs there.\n\n    # A \\\"test\\\".\n\n    def\n\"\"\"\n\nfrom __future__ import annotations\n\nMAX = 2**127 - 1\n\n\ndef fit(number: int) -> int:\n    \"\"\"The number, where it is at most MAX in absolute value.\"\"\"\n    if not -MAX <= number <= MAX:\n        raise OverflowError(\"overflow\")\n    return number\n\n\ndef whole(value: int) -> int:\n    \"\"\"The argument, where it is a whole number of at most MAX in absolute value.\"\"\"\n    if not isinstance(value, int) or isinstance(value, bool):\n        raise TypeError(\"an int is expected\")\n    return fit(value)\n\n\ndef answer(x: int) -> int:\n    \"\"\"Gives what main does.\n\n    OverflowError where a number is past MAX.\n    \"\"\"\n    whole(x)\n    return x // 2\n"
+unfolding digits
+whole_file = refl

@@ -1,0 +1,26 @@
+-- What an emission of the program says is to be printed, and the names that it wishes for.
+use Rattle.std.specs.Prelude.{ℕ, List, [], ◌∷◌, nat_eq, if◌then◌else◌}
+use Rattle.cf_stmt.specs.BlockView.{block_tree}
+use Rattle.cf_print.specs.Printed.{Printing, Names}
+use Rattle.cf_print.specs.declared.emission.Emission.{Emission}
+use Rattle.cf_print.specs.declared.emission.Hints.{Hints}
+use Rattle.cf_print.specs.declared.emission.Outputs.{Outputs}
+
+abbrev pub printing_of : Emission → Printing
+printing_of e =
+    record {
+      language = e.language;
+      has_main = e.has_main;
+      name = e.name.now;
+      source = e.source.now;
+      params = e.params.now;
+      results = e.results.now;
+      body = block_tree e.body.now;
+    }
+
+abbrev pub outputs_in : List Outputs → ℕ → List (List ℕ)
+outputs_in [] n = []
+outputs_in (o ∷ os) n = if nat_eq o.number n then o.names.items else outputs_in os n
+
+abbrev pub names_in : Hints → Names
+names_in h = record { params = h.params.items; outputs = outputs_in h.outputs.items; results = h.results.items }

@@ -1,0 +1,50 @@
+//! Compiled programs as source code of other languages.
+#![tactic(auto)]
+
+mod build;
+mod c;
+mod called;
+mod comment;
+mod count;
+mod draft;
+mod emission;
+mod exit;
+mod expression;
+mod files;
+mod filters;
+mod function;
+mod giving;
+mod heads;
+mod helpers;
+mod laws;
+mod layout;
+mod lines;
+mod mark;
+mod names;
+mod naming;
+mod numeral;
+mod pieces;
+mod place;
+mod printer;
+mod printing;
+mod put_term;
+mod python;
+mod reads;
+mod results;
+mod rows;
+mod scope;
+mod searches;
+mod sets;
+mod shape;
+mod statements;
+mod table;
+mod term;
+mod values;
+mod variables;
+mod when;
+mod wishes;
+mod words;
+
+pub use crate::emission::{Emission, EmitFault, Hints, Language, Outputs};
+pub use crate::laws::{names_are_free, texts_read_back};
+pub use crate::printing::emitted;

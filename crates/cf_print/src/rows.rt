@@ -1,0 +1,27 @@
+//! The rows of the languages.
+ghost use Rattle.std.specs.Prelude.{◌≡◌};
+ghost use Rattle.cf_print.specs.Rows.{table_of as table, words_of as words};
+
+use crate::emission::Language;
+use crate::table::{C, PYTHON, Table};
+use crate::words::{C_WORDS, PYTHON_WORDS};
+
+/// The expressions of a language.
+pub fn table_of(language: Language) -> Table
+    ensures { result ≡ table language }
+{
+    match language {
+        Language::C => C,
+        _ => PYTHON,
+    }
+}
+
+/// The words that no variable may have for its name.
+pub fn words_of(language: Language) -> &'static [u8]
+    ensures { result.now ≡ words language }
+{
+    match language {
+        Language::C => C_WORDS,
+        _ => PYTHON_WORDS,
+    }
+}
