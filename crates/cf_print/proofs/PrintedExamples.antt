@@ -8,10 +8,13 @@ use Rattle.cf_stmt.specs.Blocks.{Block, give, none, leave, bind, part, join, tes
 use Rattle.cf_range.specs.Ranges.{whole}
 use Rattle.cf_print.specs.Names.{new_name, may_name, is_name}
 use Rattle.cf_print.specs.Rows.{words_of}
-use Rattle.cf_print.specs.Statements.{block, leaves_at_ends}
+use Rattle.cf_print.specs.Statements.{block, with_let, with_variable, all_in_variables, bound_for, kept, function_of, begun, results_held, called, in_place, give_back, branched, tested, guarded, plain_arm, searched_arm, with_loop, function_name}
+use Rattle.cf_print.specs.Places.{deeper, leaving_by, behind_arm, giving, put, taking, freed, behind_one, ahead, at_hand}
+use Rattle.cf_print.specs.Shapes.{leaves_at_ends}
 use Rattle.cf_print.specs.Files.{nones_of}
-use Rattle.cf_print.specs.Printed.{Printing, Names, setting_of, unread_in, are_statuses, lacks_sets}
+use Rattle.cf_print.specs.Printed.{Printing, Names, unread_in, are_statuses, lacks_sets}
 use Rattle.cf_print.specs.declared.exit.Exit.TheVariants.{Falls}
+use Rattle.cf_print.specs.declared.place.Giving.TheVariants.{Results}
 use Rattle.cf_print.specs.declared.emission.Language.{Language}
 use Rattle.cf_print.specs.declared.emission.Language.TheVariants.{C, Python, JavaScript, Rust}
 
@@ -55,28 +58,25 @@ helper : may_name (words_of Python) (codes "fit") ≡ false
 helper = refl
 
 -- ---- variables that are not read
-abbrev no_names : Names
-no_names = record { params = []; outputs = λ n. []; results = [] }
-
 abbrev lines_in : Language → Block → List ℕ
-lines_in l b = (block (setting_of l no_names) (record { names = codes "x" ∷ []; bases = Int ∷ []; ranges = whole ∷ [] }) b
-    (record { depth = 1; exit = Falls; arms = 0; outputs = []; pointers = codes "out" ∷ [] })
-    (record { lines = []; taken = codes "x" ∷ []; functions = []; numbers = [] })).lines
+lines_in l b = (block (record { language = l; results = []; outputs = λ n. [] }) (record { names = codes "x" ∷ []; bases = Int ∷ []; ranges = whole ∷ [] }) b
+    (record { depth = 1; exit = Falls; arms = 0; giving = Results })
+    (record { lines = []; pointers = codes "out" ∷ []; taken = codes "x" ∷ []; functions = []; numbers = [] })).lines
 
 abbrev unread : Block
 unread = bind (give (code_lit (pos 5))) (give (code_var 0))
 
 unread_in_python : lines_in Python unread ≡ codes "    n1 = 5\n    return x\n"
-unfolding digits
+unfolding digits with_let with_variable all_in_variables bound_for kept function_of begun results_held called in_place give_back branched tested guarded plain_arm searched_arm with_loop function_name deeper leaving_by behind_arm giving put taking freed behind_one ahead at_hand
 unread_in_python = refl
 
 unread_in_c : lines_in C unread ≡ codes "    whole n1 = 5;\n    (void)n1;\n    *out = x;\n    return past ? COMFUSY_OVERFLOW : 0;\n"
-unfolding digits
+unfolding digits with_let with_variable all_in_variables bound_for kept function_of begun results_held called in_place give_back branched tested guarded plain_arm searched_arm with_loop function_name deeper leaving_by behind_arm giving put taking freed behind_one ahead at_hand
 unread_in_c = refl
 
 read_in_c : lines_in C (bind (give (code_lit (pos 5))) (give (code_var 1))) ≡
     codes "    whole n1 = 5;\n    *out = n1;\n    return past ? COMFUSY_OVERFLOW : 0;\n"
-unfolding digits
+unfolding digits with_let with_variable all_in_variables bound_for kept function_of begun results_held called in_place give_back branched tested guarded plain_arm searched_arm with_loop function_name deeper leaving_by behind_arm giving put taking freed behind_one ahead at_hand
 read_in_c = refl
 
 -- a number is read by its check, a truth value is not; and where nothing is given, no pointer is
@@ -89,31 +89,31 @@ nothing_given = refl
 -- ---- blocks that never give
 -- what stands behind them is not reached: values that are bound, other values, a test
 never_bound : lines_in Python (bind (none 3) (give (code_var 1))) ≡ codes "    raise NoSolution(3)\n"
-unfolding digits
+unfolding digits with_let with_variable all_in_variables bound_for kept function_of begun results_held called in_place give_back branched tested guarded plain_arm searched_arm with_loop function_name deeper leaving_by behind_arm giving put taking freed behind_one ahead at_hand
 never_bound = refl
 
 never_tested : lines_in Python (test (part (none 3) (give (code_var 0))) (give (code_var 0)) (none 4)) ≡ codes "    raise NoSolution(3)\n"
-unfolding digits
+unfolding digits with_let with_variable all_in_variables bound_for kept function_of begun results_held called in_place give_back branched tested guarded plain_arm searched_arm with_loop function_name deeper leaving_by behind_arm giving put taking freed behind_one ahead at_hand
 never_tested = refl
 
 never_first : lines_in Python (join (test (give (code_truth true)) (none 3) (none 4)) (give (code_var 0))) ≡
     codes "    if not True:\n        raise NoSolution(4)\n    raise NoSolution(3)\n"
-unfolding digits
+unfolding digits with_let with_variable all_in_variables bound_for kept function_of begun results_held called in_place give_back branched tested guarded plain_arm searched_arm with_loop function_name deeper leaving_by behind_arm giving put taking freed behind_one ahead at_hand
 never_first = refl
 
 never_second : lines_in Python (join (give (code_lit (pos 5))) (none 3)) ≡ codes "    n1 = 5\n    raise NoSolution(3)\n"
-unfolding digits
+unfolding digits with_let with_variable all_in_variables bound_for kept function_of begun results_held called in_place give_back branched tested guarded plain_arm searched_arm with_loop function_name deeper leaving_by behind_arm giving put taking freed behind_one ahead at_hand
 never_second = refl
 
 never_second_in_c : lines_in C (join (give (code_lit (pos 5))) (none 3)) ≡
     codes "    whole n1 = 5;\n    (void)n1;\n    return past ? COMFUSY_OVERFLOW : 3;\n"
-unfolding digits
+unfolding digits with_let with_variable all_in_variables bound_for kept function_of begun results_held called in_place give_back branched tested guarded plain_arm searched_arm with_loop function_name deeper leaving_by behind_arm giving put taking freed behind_one ahead at_hand
 never_second_in_c = refl
 
 -- a block is never empty
 left_at_once : lines_in Python (arm [] (test (give (code_truth true)) leave (give (code_var 0))) (arm [] (give (code_var 0)) (none 1))) ≡
     codes "    # Arm 1.\n    if True:\n        pass\n    else:\n        return x\n    # Arm 2.\n    return x\n"
-unfolding digits
+unfolding digits with_let with_variable all_in_variables bound_for kept function_of begun results_held called in_place give_back branched tested guarded plain_arm searched_arm with_loop function_name deeper leaving_by behind_arm giving put taking freed behind_one ahead at_hand
 left_at_once = refl
 
 -- ---- where arms are left

@@ -9,9 +9,11 @@ use Rattle.cf_stmt.specs.Blocks.{Block, give, none, leave, bind, part, join, tes
 use Rattle.cf_range.specs.Ranges.{whole, between as from_to}
 use Rattle.cf_print.specs.Terms.{text}
 use Rattle.cf_print.specs.Expressions.{Sight, term_of}
-use Rattle.cf_print.specs.Statements.{Setting, Place, Draft, block}
-use Rattle.cf_print.specs.Printed.{Printing, Names, setting_of, printed}
+use Rattle.cf_print.specs.Statements.{block, with_let, with_variable, all_in_variables, bound_for, kept, function_of, begun, results_held, called, in_place, give_back, branched, tested, guarded, plain_arm, searched_arm, with_loop, function_name}
+use Rattle.cf_print.specs.Places.{deeper, leaving_by, behind_arm, giving, put, taking, freed, behind_one, ahead, at_hand}
+use Rattle.cf_print.specs.Printed.{Printing, Names, printed}
 use Rattle.cf_print.specs.declared.exit.Exit.TheVariants.{Falls}
+use Rattle.cf_print.specs.declared.place.Giving.TheVariants.{Results}
 use Rattle.cf_print.specs.declared.emission.Language.TheVariants.{C, Python}
 use Rattle.cf_print.specs.declared.table.TheConstants.{PYTHON, C as C_TABLE}
 
@@ -222,20 +224,20 @@ program b = record {
 }
 
 abbrev lines_of : Block → List ℕ
-lines_of b = (block (setting_of Python no_names) (record { names = codes "x" ∷ []; bases = Int ∷ []; ranges = whole ∷ [] }) b
-    (record { depth = 1; exit = Falls; arms = 0; outputs = []; pointers = [] })
-    (record { lines = []; taken = codes "x" ∷ []; functions = []; numbers = [] })).lines
+lines_of b = (block (record { language = Python; results = []; outputs = λ n. [] }) (record { names = codes "x" ∷ []; bases = Int ∷ []; ranges = whole ∷ [] }) b
+    (record { depth = 1; exit = Falls; arms = 0; giving = Results })
+    (record { lines = []; pointers = []; taken = codes "x" ∷ []; functions = []; numbers = [] })).lines
 
 arms : lines_of two_arms ≡ codes "    # Arm 1.\n    n1 = fit(x - 10)\n    if n1 >= 0:\n        return n1\n    # Arm 2.\n    if x < 0:\n        raise NoSolution(7)\n    return x\n"
-unfolding digits
+unfolding digits with_let with_variable all_in_variables bound_for kept function_of begun results_held called in_place give_back branched tested guarded plain_arm searched_arm with_loop function_name deeper leaving_by behind_arm giving put taking freed behind_one ahead at_hand
 arms = refl
 
 search : lines_of (arm (6 ∷ []) (test (give (code_compare Ge (sum (var 1 ∷ var 1 ∷ [])) (var 0))) (give (var 1)) leave) (none 3)) ≡
     codes "    for i in range(6):\n        if i + i < x:\n            continue\n        return i\n    raise NoSolution(3)\n"
-unfolding digits
+unfolding digits with_let with_variable all_in_variables bound_for kept function_of begun results_held called in_place give_back branched tested guarded plain_arm searched_arm with_loop function_name deeper leaving_by behind_arm giving put taking freed behind_one ahead at_hand
 search = refl
 
 whole_file : printed no_names (program (give (code_div (var 0) (pos 2)))) ≡
     codes "\"\"\"Written by Comfusy from this source; each change belongs there.\n\n    # A \\\"test\\\".\n\n    def\n\"\"\"\n\nfrom __future__ import annotations\n\nMAX = 2**127 - 1\n\n\ndef fit(number: int) -> int:\n    \"\"\"The number, where it is at most MAX in absolute value.\"\"\"\n    if not -MAX <= number <= MAX:\n        raise OverflowError(\"overflow\")\n    return number\n\n\ndef whole(value: int) -> int:\n    \"\"\"The argument, where it is a whole number of at most MAX in absolute value.\"\"\"\n    if not isinstance(value, int) or isinstance(value, bool):\n        raise TypeError(\"an int is expected\")\n    return fit(value)\n\n\ndef answer(x: int) -> int:\n    \"\"\"Gives what main does.\n\n    OverflowError where a number is past MAX.\n    \"\"\"\n    whole(x)\n    return x // 2\n"
-unfolding digits
+unfolding digits with_let with_variable all_in_variables bound_for kept function_of begun results_held called in_place give_back branched tested guarded plain_arm searched_arm with_loop function_name deeper leaving_by behind_arm giving put taking freed behind_one ahead at_hand
 whole_file = refl

@@ -32,13 +32,13 @@ words s = words_of s.language
 
 -- ---- places
 
-abbrev pub deeper : Place → Place
+unfoldable pub deeper : Place → Place
 deeper p = record { depth = suc p.depth; exit = p.exit; arms = 0; giving = p.giving }
 
-abbrev pub leaving_by : Exit → Place → Place
+unfoldable pub leaving_by : Exit → Place → Place
 leaving_by e p = record { depth = p.depth; exit = e; arms = 0; giving = p.giving }
 
-abbrev pub behind_arm : Place → Place
+unfoldable pub behind_arm : Place → Place
 behind_arm p = record { depth = p.depth; exit = p.exit; arms = suc p.arms; giving = p.giving }
 
 -- the names of the outputs that a place gives
@@ -52,7 +52,7 @@ abbrev pub giving_of : ℕ → Giving
 giving_of n = if nat_eq n 0 then Part else Choose n
 
 -- at the arms of a choose whose outputs have names
-abbrev pub giving : Setting → ℕ → Place → Place
+unfoldable pub giving : Setting → ℕ → Place → Place
 giving s n p =
     if nat_eq (length (s.outputs n)) 0 then p else record { depth = p.depth; exit = p.exit; arms = p.arms; giving = Choose n }
 
@@ -66,15 +66,15 @@ pub record Draft : Type 0 where
   pub functions : List ℕ
   pub numbers : List ℕ
 
-abbrev pub put : List ℕ → Draft → Draft
+unfoldable pub put : List ℕ → Draft → Draft
 put t d = record { lines = d.lines ++ t; pointers = d.pointers; taken = d.taken; functions = d.functions; numbers = d.numbers }
 
-abbrev pub taking : List ℕ → Draft → Draft
+unfoldable pub taking : List ℕ → Draft → Draft
 taking name d =
     record { lines = d.lines; pointers = d.pointers; taken = d.taken ++ (name ∷ []); functions = d.functions; numbers = d.numbers }
 
 -- only so many names are taken, the first
-abbrev pub freed : ℕ → Draft → Draft
+unfoldable pub freed : ℕ → Draft → Draft
 freed n d = record { lines = d.lines; pointers = d.pointers; taken = take n d.taken; functions = d.functions; numbers = d.numbers }
 
 -- ---- values at hand
@@ -89,7 +89,7 @@ abbrev pub is_variable : CodeTree → Bool
 is_variable (code_var x) = true
 is_variable c = false
 
-abbrev pub at_hand : Table → Sight → CodeTree → AtHand
+unfoldable pub at_hand : Table → Sight → CodeTree → AtHand
 at_hand t w c = record {
   text = text (term_of t w c);
   denied = denied_text t w c (base_of w.bases c);
@@ -120,7 +120,7 @@ abbrev pub first_at_hand : List AtHand → AtHand
 first_at_hand [] = record { text = []; denied = []; is_variable = false; base = Int; range = whole }
 first_at_hand (v ∷ vs) = v
 
-abbrev pub behind_one : Sight → AtHand → Sight
+unfoldable pub behind_one : Sight → AtHand → Sight
 behind_one w v =
     record { names = w.names ++ (v.text ∷ []); bases = w.bases ++ (v.base ∷ []); ranges = w.ranges ++ (v.range ∷ []) }
 
@@ -129,7 +129,7 @@ abbrev pub behind : Sight → List AtHand → Sight
 behind w [] = w
 behind w (v ∷ vs) = behind (behind_one w v) vs
 
-abbrev pub ahead : AtHand → Sight → Sight
+unfoldable pub ahead : AtHand → Sight → Sight
 ahead v w = record { names = v.text ∷ w.names; bases = v.base ∷ w.bases; ranges = v.range ∷ w.ranges }
 
 -- values and the draft in which they are at hand

@@ -51,6 +51,11 @@ leaves_at_ends in_arm (join a b) = leaves_at_ends false a && leaves_at_ends fals
 leaves_at_ends in_arm (test t a b) = leaves_at_ends false t && (leaves_at_ends in_arm a && leaves_at_ends in_arm b)
 leaves_at_ends in_arm (arm ks a b) = leaves_at_ends true a && leaves_at_ends in_arm b
 
+-- an arm is straight that is the last and has no searches, where its body is, of which leaving comes to no solution
+abbrev pub straight_last : Option ℕ → Bool → (ℕ → Bool) → Bool
+straight_last None plain body = false
+straight_last (Some n) plain body = plain && body n
+
 -- it gives values behind lets and guards alone
 abbrev pub is_straight : Exit → Block → Bool
 is_straight e (give c) = true
@@ -58,10 +63,7 @@ is_straight e (bind a b) = gives a && is_straight e b
 is_straight e (part a b) = gives a && is_straight e b
 is_straight e (join a b) = gives a && is_straight e b
 is_straight e (test t a b) = gives t && ((is_some (exit_of e b) && is_straight e a) || (is_some (exit_of e a) && is_straight e b))
-is_straight e (arm ks a b) = elim (is_none b) [
-  | None ↦ false
-  | Some n ↦ nat_eq (length ks) 0 && is_straight (Ends n) a
-]
+is_straight e (arm ks a b) = straight_last (is_none b) (nat_eq (length ks) 0) (λ n. is_straight (Ends n) a)
 is_straight e (none n) = false
 is_straight e leave = false
 

@@ -30,13 +30,13 @@ abbrev pub with_value : AtHand → Draft → Held → Held
 with_value v d h = record { values = h.values ++ (v ∷ []); draft = d }
 
 -- a value gets a variable, if it is none
-abbrev pub with_let : Setting → ℕ → Wish → AtHand → Held → Held
+unfoldable pub with_let : Setting → ℕ → Wish → AtHand → Held → Held
 with_let s depth wish v h =
     let name = new_name (words s) h.draft.taken v.base wish.name in
     with_value (variable (table s) v.base v.range name)
     (taking name (put (let_lines s.language depth wish.is_read v.base name v.text) h.draft)) h
 
-abbrev pub with_variable : Setting → ℕ → Wish → AtHand → Held → Held
+unfoldable pub with_variable : Setting → ℕ → Wish → AtHand → Held → Held
 with_variable s depth wish v h =
     if v.is_variable then with_value v (put (read_lines s.language depth wish.is_read v.text) h.draft) h else with_let s depth wish v h
 
@@ -48,7 +48,7 @@ in_variables s depth wish k (v ∷ vs) h = in_variables s depth wish (suc k) vs 
 abbrev pub no_values : Draft → Held
 no_values d = record { values = []; draft = d }
 
-abbrev pub all_in_variables : Setting → ℕ → (ℕ → Wish) → Held → Held
+unfoldable pub all_in_variables : Setting → ℕ → (ℕ → Wish) → Held → Held
 all_in_variables s depth wish h = in_variables s depth wish 0 h.values (no_values h.draft)
 
 -- of the k-th value that a block gets behind the variables from x on
@@ -62,11 +62,11 @@ abbrev pub never_read : ℕ → Wish
 never_read k = record { name = None; is_read = false }
 
 -- values for a block that reads them as the variables from x on
-abbrev pub bound_for : Setting → Place → ℕ → Block → Held → Held
+unfoldable pub bound_for : Setting → Place → ℕ → Block → Held → Held
 bound_for s p x b h = all_in_variables s p.depth (wish_in s p x b) h
 
 -- values stay as they are where no statement comes between
-abbrev pub kept : Setting → ℕ → Bool → Held → Held
+unfoldable pub kept : Setting → ℕ → Bool → Held → Held
 kept s depth is_plain h = if is_plain then h else all_in_variables s depth no_wish h
 
 abbrev pub joined_held : Held → Held → Held
@@ -85,7 +85,7 @@ first_name n = if nat_eq n 0 then codes "part" else codes "choose_" ++ decimal n
 abbrev pub numbered_name : ℕ → ℕ → List ℕ
 numbered_name n k = if nat_eq k 0 then first_name n else first_name n ++ codes "_" ++ decimal (suc k)
 
-abbrev pub function_name : ℕ → List ℕ → List ℕ
+unfoldable pub function_name : ℕ → List ℕ → List ℕ
 function_name n numbers = numbered_name n (times_in n numbers)
 
 abbrev pub pointer_wish : Option (List ℕ) → List ℕ
@@ -124,7 +124,7 @@ pub record Function : Type 0 where
   pub results : List Base
   pub pointers : List (List ℕ)
 
-abbrev pub function_of : Setting → Sight → Block → List ℕ → Function
+unfoldable pub function_of : Setting → Sight → Block → List ℕ → Function
 function_of s w a numbers =
     let n = number_of a in
     let params = those_read 0 a w.names in
@@ -142,7 +142,7 @@ abbrev pub inside : Function → Place
 inside f = record { depth = 1; exit = Falls; arms = 0; giving = giving_of f.number }
 
 -- its draft before its first statement, behind these functions
-abbrev pub begun : Setting → Function → List ℕ → List ℕ → Draft
+unfoldable pub begun : Setting → Function → List ℕ → List ℕ → Draft
 begun s f functions numbers = record {
   lines = part_opening s.language f.number f.name (all_parameters s.language f.params f.bases f.pointers f.results) f.results;
   pointers = f.pointers;
@@ -157,7 +157,7 @@ variables s [] xs = []
 variables s (b ∷ bs) [] = []
 
 -- its results in variables, behind the lines of the function that calls it, whose draft this was; and the draft behind its last statement
-abbrev pub results_held : Setting → ℕ → Function → List ℕ → List (List ℕ) → List (List ℕ) → Draft → Held
+unfoldable pub results_held : Setting → ℕ → Function → List ℕ → List (List ℕ) → List (List ℕ) → Draft → Held
 results_held s depth f lines pointers taken done =
     let names = names_for s AValue (outputs_at s (giving_of f.number)) 0 f.results taken in
     let status = new_name (words s) (taken ++ names) Int (Some (codes "status")) in
@@ -172,13 +172,13 @@ results_held s depth f lines pointers taken done =
       };
     }
 
-abbrev pub called : Setting → Place → Sight → Block → (Place → Draft → Draft) → Draft → Held
+unfoldable pub called : Setting → Place → Sight → Block → (Place → Draft → Draft) → Draft → Held
 called s p w a body d =
     let f = function_of s w a d.numbers in
     results_held s p.depth f d.lines d.pointers d.taken (body (inside f) (begun s f d.functions d.numbers))
 
 -- the values of a block: in its place where it is straight
-abbrev pub in_place : Setting → Place → Sight → Block → (Place → Draft → Held) → (Place → Draft → Draft) → Draft → Held
+unfoldable pub in_place : Setting → Place → Sight → Block → (Place → Draft → Held) → (Place → Draft → Draft) → Draft → Held
 in_place s p w a straight body d = if is_straight p.exit a then straight p d else called s p w a body d
 
 -- ---- lines of a place
@@ -192,7 +192,7 @@ exit_lines l depth (Ends n) = line l depth (none_text l n)
 abbrev pub guard_lines : Language → ℕ → List ℕ → Exit → List ℕ
 guard_lines l depth condition e = line l depth (guard_text l condition) ++ exit_lines l (suc depth) e ++ guard_end l depth
 
-abbrev pub give_back : Setting → Place → Held → Draft
+unfoldable pub give_back : Setting → Place → Held → Draft
 give_back s p h = put (give_lines s.language p.depth h.draft.pointers (names_of h.values)) h.draft
 
 -- an arm among several is told by a comment
@@ -208,7 +208,7 @@ arm_lines l p None = arm_comment l p
 
 -- ---- tests: a side that only leaves is a guard
 
-abbrev pub branched : Setting → Place → Block → Block → AtHand → (Place → Draft → Draft) → (Place → Draft → Draft) → Draft → Draft
+unfoldable pub branched : Setting → Place → Block → Block → AtHand → (Place → Draft → Draft) → (Place → Draft → Draft) → Draft → Draft
 branched s p a b v yes_side no_side d =
     let behind_yes = freed (length d.taken) (yes_side (deeper p) (put (line s.language p.depth (if_text s.language v.text)) d)) in
     if is_leave b then put (end_lines s.language p.depth) behind_yes
@@ -216,23 +216,22 @@ branched s p a b v yes_side no_side d =
     then put (end_lines s.language p.depth) (freed (length d.taken) (no_side (deeper p) (put (else_lines s.language p.depth) behind_yes)))
     else no_side p (put (end_lines s.language p.depth) behind_yes)
 
-abbrev pub tested : Setting → Place → Block → Block → AtHand → (Place → Draft → Draft) → (Place → Draft → Draft) → Draft → Draft
-tested s p a b v yes_side no_side d = elim (exit_of p.exit b) [
-  | Some e ↦ yes_side p (put (guard_lines s.language p.depth v.denied e) d)
-  | None ↦ elim (exit_of p.exit a) [
-    | Some e ↦ no_side p (put (guard_lines s.language p.depth v.text e) d)
-    | None ↦ branched s p a b v yes_side no_side d
-  ]
-]
+-- what the sides come to that only leave, the second first
+abbrev pub tested_by : Option Exit → Option Exit → Setting → Place → Block → Block → AtHand → (Place → Draft → Draft) → (Place → Draft → Draft) → Draft → Draft
+tested_by (Some e) f s p a b v yes_side no_side d = yes_side p (put (guard_lines s.language p.depth v.denied e) d)
+tested_by None (Some e) s p a b v yes_side no_side d = no_side p (put (guard_lines s.language p.depth v.text e) d)
+tested_by None None s p a b v yes_side no_side d = branched s p a b v yes_side no_side d
 
-abbrev pub guarded : Setting → Place → Block → Block → AtHand → (Place → Draft → Held) → (Place → Draft → Held) → Draft → Held
-guarded s p a b v yes_side no_side d = elim (exit_of p.exit b) [
-  | Some e ↦ yes_side p (put (guard_lines s.language p.depth v.denied e) d)
-  | None ↦ elim (exit_of p.exit a) [
-    | Some e ↦ no_side p (put (guard_lines s.language p.depth v.text e) d)
-    | None ↦ no_values d
-  ]
-]
+unfoldable pub tested : Setting → Place → Block → Block → AtHand → (Place → Draft → Draft) → (Place → Draft → Draft) → Draft → Draft
+tested s p a b v yes_side no_side d = tested_by (exit_of p.exit b) (exit_of p.exit a) s p a b v yes_side no_side d
+
+abbrev pub guarded_by : Option Exit → Option Exit → Setting → Place → AtHand → (Place → Draft → Held) → (Place → Draft → Held) → Draft → Held
+guarded_by (Some e) f s p v yes_side no_side d = yes_side p (put (guard_lines s.language p.depth v.denied e) d)
+guarded_by None (Some e) s p v yes_side no_side d = no_side p (put (guard_lines s.language p.depth v.text e) d)
+guarded_by None None s p v yes_side no_side d = no_values d
+
+unfoldable pub guarded : Setting → Place → Block → Block → AtHand → (Place → Draft → Held) → (Place → Draft → Held) → Draft → Held
+guarded s p a b v yes_side no_side d = guarded_by (exit_of p.exit b) (exit_of p.exit a) s p v yes_side no_side d
 
 -- ---- arms
 
@@ -243,7 +242,7 @@ arm_place JavaScript p = deeper (leaving_by Falls p)
 arm_place Rust p = deeper (leaving_by Falls p)
 
 -- an arm without searches: the last one has guards
-abbrev pub plain_arm : Setting → Place → Option ℕ → (Place → Draft → Draft) → (Place → Draft → Draft) → Draft → Draft
+unfoldable pub plain_arm : Setting → Place → Option ℕ → (Place → Draft → Draft) → (Place → Draft → Draft) → Draft → Draft
 plain_arm s p (Some n) body later d = body (leaving_by (Ends n) p) (put (arm_lines s.language p (Some n)) d)
 plain_arm s p None body later d =
     let ended = body (arm_place s.language p) (put (scope_lines s.language p.depth) (put (arm_lines s.language p None) d)) in
@@ -262,7 +261,7 @@ pub record Loops : Type 0 where
   pub depth : ℕ
 
 -- one loop more, for the j-th search
-abbrev pub with_loop : Setting → ℕ → ℕ → Loops → Loops
+unfoldable pub with_loop : Setting → ℕ → ℕ → Loops → Loops
 with_loop s j k l =
     let name = new_name (words s) l.draft.taken Int (search_wish j) in
     record {
@@ -279,7 +278,7 @@ abbrev pub loop_ends : Language → ℕ → ℕ → List ℕ
 loop_ends l depth zero = []
 loop_ends l depth (suc n) = end_lines l (depth + n) ++ loop_ends l depth n
 
-abbrev pub searched_arm : Setting → Place → Sight → List ℕ → Option ℕ → (Sight → Place → Draft → Draft) → (Place → Draft → Draft) → Draft → Draft
+unfoldable pub searched_arm : Setting → Place → Sight → List ℕ → Option ℕ → (Sight → Place → Draft → Draft) → (Place → Draft → Draft) → Draft → Draft
 searched_arm s p w ks last body later d =
     let l = loops_of s 0 ks (record { draft = put (arm_lines s.language p last) d; sight = w; depth = p.depth }) in
     let ended = body l.sight (record { depth = l.depth; exit = GoesOn; arms = 0; giving = p.giving }) l.draft in

@@ -36,6 +36,7 @@ impl Model for Draft {
 
 impl Draft {
     /// The draft with a name taken.
+    #[tactic(auto, unfolding(crate::specs::Places::taking))]
     pub(crate) fn taking(self, alloc: Global, name: &Text) -> Result<Draft, NoMemory>
         ensures { IfOk result (λ d. d ≡ taking name.now self) }
     {
@@ -45,6 +46,7 @@ impl Draft {
     }
 
     /// The draft in which only the first so many names are taken.
+    #[tactic(auto, unfolding(crate::specs::Places::freed))]
     pub(crate) fn freed(self, count: usize) -> Draft
         ensures { result ≡ freed_to count self }
     {
@@ -55,6 +57,7 @@ impl Draft {
 }
 
 /// The draft with a variable and its value.
+#[tactic(auto, unfolding(crate::specs::Places::put))]
 pub(crate) fn put_let(
     draft: Draft,
     language: Language,
@@ -80,6 +83,7 @@ pub(crate) fn put_let(
 }
 
 /// The draft in which a variable is named once more where no statement reads it.
+#[tactic(auto, unfolding(crate::specs::Places::put))]
 pub(crate) fn put_read(
     draft: Draft,
     language: Language,

@@ -396,8 +396,9 @@ fn compared(
     comparison(walk.alloc, walk.table, base, order, left, right)
 }
 
+/// The term of the opposite of a condition.
 #[cycle(term_of)]
-fn not(walk: &Walk<'_>, a: &Code) -> Result<Term, NoMemory>
+pub(crate) fn not(walk: &Walk<'_>, a: &Code) -> Result<Term, NoMemory>
     ensures { IfOk result (λ t. term_tree t ≡ denied_of walk.now.table.now (opposite_of walk.now.table.now walk.now.scope.now (code_tree a.now))
         (term walk.now.table.now walk.now.scope.now (code_tree a.now))) }
 {

@@ -56,6 +56,7 @@ impl Model for Function {
 }
 
 /// The function for a block, behind functions for the chooses of these numbers.
+#[tactic(auto, unfolding(crate::specs::Statements::function_of))]
 pub(crate) fn function_of(
     printer: &Printer<'_>,
     scope: &Scope,
@@ -98,7 +99,7 @@ pub(crate) fn inside(function: &Function) -> Place
 }
 
 /// Its draft before its first statement, behind the functions before it.
-#[tactic(auto, unfolding(crate::specs::PrinterView::setting_in))]
+#[tactic(auto, unfolding(crate::specs::PrinterView::setting_in, crate::specs::Statements::begun))]
 pub(crate) fn begun(
     printer: &Printer<'_>,
     function: &Function,
@@ -217,6 +218,7 @@ fn closed(printer: &Printer<'_>, functions: Vec<u8>, lines: &[u8]) -> Result<Vec
 }
 
 /// Its results in variables, behind its last statement.
+#[tactic(auto, unfolding(crate::specs::PrinterView::setting_in, crate::specs::Statements::results_held))]
 pub(crate) fn results_held(
     printer: &Printer<'_>,
     depth: usize,

@@ -35,7 +35,7 @@ fn put_exit_lines(
 }
 
 /// The draft in which the arm is left.
-#[tactic(auto, unfolding(crate::specs::PrinterView::setting_in))]
+#[tactic(auto, unfolding(crate::specs::PrinterView::setting_in, crate::specs::Places::put))]
 pub(crate) fn put_exit(
     printer: &Printer<'_>,
     place: Place,
@@ -65,7 +65,7 @@ fn put_guard_lines(
 }
 
 /// The draft in which the block is left where a condition holds.
-#[tactic(auto, unfolding(crate::specs::PrinterView::setting_in))]
+#[tactic(auto, unfolding(crate::specs::PrinterView::setting_in, crate::specs::Places::put))]
 pub(crate) fn put_guard(
     printer: &Printer<'_>,
     place: Place,
@@ -87,7 +87,7 @@ pub(crate) fn put_guard(
 }
 
 /// The draft in which what follows stands deeper, where a condition holds.
-#[tactic(auto, unfolding(crate::specs::PrinterView::setting_in))]
+#[tactic(auto, unfolding(crate::specs::PrinterView::setting_in, crate::specs::Places::put))]
 pub(crate) fn put_if(
     printer: &Printer<'_>,
     place: Place,
@@ -107,7 +107,7 @@ pub(crate) fn put_if(
 }
 
 /// The draft with the line before the other side of a condition.
-#[tactic(auto, unfolding(crate::specs::PrinterView::setting_in))]
+#[tactic(auto, unfolding(crate::specs::PrinterView::setting_in, crate::specs::Places::put))]
 pub(crate) fn put_else(printer: &Printer<'_>, place: Place, draft: Draft) -> Result<Draft, NoMemory>
     ensures { IfOk result (λ d. d ≡ put (else_lines (setting_in printer.now).language place.depth) draft) }
 {
@@ -117,7 +117,7 @@ pub(crate) fn put_else(printer: &Printer<'_>, place: Place, draft: Draft) -> Res
 }
 
 /// The draft with the end of what stood deeper.
-#[tactic(auto, unfolding(crate::specs::PrinterView::setting_in))]
+#[tactic(auto, unfolding(crate::specs::PrinterView::setting_in, crate::specs::Places::put))]
 pub(crate) fn put_end(printer: &Printer<'_>, place: Place, draft: Draft) -> Result<Draft, NoMemory>
     ensures { IfOk result (λ d. d ≡ put (end_lines (setting_in printer.now).language place.depth) draft) }
 {
@@ -127,7 +127,7 @@ pub(crate) fn put_end(printer: &Printer<'_>, place: Place, draft: Draft) -> Resu
 }
 
 /// The draft with the line before an arm whose variables are its own.
-#[tactic(auto, unfolding(crate::specs::PrinterView::setting_in))]
+#[tactic(auto, unfolding(crate::specs::PrinterView::setting_in, crate::specs::Places::put))]
 pub(crate) fn put_scope(
     printer: &Printer<'_>,
     place: Place,
@@ -182,7 +182,7 @@ fn put_arm_lines(
 }
 
 /// The draft with what tells an arm among several.
-#[tactic(auto, unfolding(crate::specs::PrinterView::setting_in))]
+#[tactic(auto, unfolding(crate::specs::PrinterView::setting_in, crate::specs::Places::put))]
 pub(crate) fn put_arm(
     printer: &Printer<'_>,
     place: Place,
@@ -218,7 +218,7 @@ fn put_ends(
 }
 
 /// The draft with the ends of so many loops.
-#[tactic(auto, unfolding(crate::specs::PrinterView::setting_in))]
+#[tactic(auto, unfolding(crate::specs::PrinterView::setting_in, crate::specs::Places::put))]
 pub(crate) fn put_loop_ends(
     printer: &Printer<'_>,
     place: Place,
@@ -233,20 +233,32 @@ pub(crate) fn put_loop_ends(
 }
 
 /// The draft in which values are given.
-#[tactic(auto, unfolding(crate::specs::PrinterView::setting_in))]
+#[tactic(auto, unfolding(crate::specs::PrinterView::setting_in, crate::specs::Places::put, crate::specs::Statements::give_back))]
 pub(crate) fn give_back(printer: &Printer<'_>, place: Place, held: Held) -> Result<Draft, NoMemory>
     ensures { IfOk result (λ d. d ≡ given_back (setting_in printer.now) place held) }
 {
     let Held { values, draft } = held;
     let texts = texts_of(printer.alloc, &values)?;
-    let mut draft = draft;
+    let Draft {
+        mut lines,
+        pointers,
+        taken,
+        functions,
+        numbers,
+    } = draft;
     put_give(
         printer.alloc,
-        &mut draft.lines,
+        &mut lines,
         printer.language,
         place.depth,
-        &draft.pointers,
+        &pointers,
         &texts,
     )?;
-    Ok(draft)
+    Ok(Draft {
+        lines,
+        pointers,
+        taken,
+        functions,
+        numbers,
+    })
 }

@@ -64,6 +64,7 @@ fn numbered_name(alloc: Global, number: u32, times: usize) -> Result<Text, NoMem
 }
 
 /// The name of the next function for the choose of this number, or for a part of main where that is 0.
+#[tactic(auto, unfolding(crate::specs::Statements::function_name))]
 pub(crate) fn function_name(alloc: Global, number: u32, numbers: &[u32]) -> Result<Text, NoMemory>
     ensures { IfOk result (λ name. name ≡ function_named number numbers.now) }
 {

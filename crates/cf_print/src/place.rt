@@ -29,6 +29,7 @@ pub(crate) struct Place {
 }
 
 /// A place one step deeper.
+#[tactic(auto, unfolding(crate::specs::Places::deeper))]
 pub(crate) fn deeper(place: Place) -> Result<Place, NoMemory>
     ensures { IfOk result (λ p. p ≡ one_deeper place) }
 {
@@ -41,6 +42,7 @@ pub(crate) fn deeper(place: Place) -> Result<Place, NoMemory>
 }
 
 /// A place of which leaving comes to this.
+#[tactic(auto, unfolding(crate::specs::Places::leaving_by))]
 pub(crate) fn leaving_by(exit: Exit, place: Place) -> Place
     ensures { result ≡ leaving exit place }
 {
@@ -53,6 +55,7 @@ pub(crate) fn leaving_by(exit: Exit, place: Place) -> Place
 }
 
 /// The place behind an arm.
+#[tactic(auto, unfolding(crate::specs::Places::behind_arm))]
 pub(crate) fn behind_arm(place: Place) -> Result<Place, NoMemory>
     ensures { IfOk result (λ p. p ≡ behind_the_arm place) }
 {

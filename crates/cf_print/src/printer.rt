@@ -61,7 +61,7 @@ pub(crate) fn outputs_of<'a>(printer: &Printer<'a>, giving: Giving) -> &'a [Text
 }
 
 /// A place at the arms of a choose.
-#[tactic(auto, unfolding(crate::specs::PrinterView::setting_in))]
+#[tactic(auto, unfolding(crate::specs::PrinterView::setting_in, crate::specs::Places::giving))]
 pub(crate) fn giving(printer: &Printer<'_>, number: u32, place: Place) -> Place
     ensures { result ≡ giving_at (setting_in printer.now) number place }
 {

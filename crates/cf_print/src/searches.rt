@@ -62,6 +62,7 @@ fn below(bound: u32) -> Range
     }
 }
 
+#[tactic(auto, unfolding(crate::specs::Places::put))]
 fn put_search(
     draft: Draft,
     language: Language,
@@ -77,7 +78,7 @@ fn put_search(
 }
 
 // One loop more, for the j-th search.
-#[tactic(auto, unfolding(crate::specs::PrinterView::setting_in))]
+#[tactic(auto, unfolding(crate::specs::PrinterView::setting_in, crate::specs::Statements::with_loop))]
 fn with_loop(printer: &Printer<'_>, j: usize, bound: u32, loops: Loops) -> Result<Loops, NoMemory>
     ensures { IfOk result (λ l. l ≡ one_loop_more (setting_in printer.now) j bound loops) }
 {

@@ -147,6 +147,7 @@ fn both(
 
 // A test whose condition is at hand: a side that only leaves is a guard.
 #[cycle(block)]
+#[tactic(auto, unfolding(crate::specs::Statements::tested))]
 fn put_tested(
     printer: &Printer<'_>,
     scope: Scope,
@@ -181,6 +182,7 @@ fn put_tested(
 
 // Both sides of a test.
 #[cycle(block)]
+#[tactic(auto, unfolding(crate::specs::Statements::branched))]
 fn put_branches(
     printer: &Printer<'_>,
     scope: Scope,
@@ -216,6 +218,7 @@ fn put_branches(
 
 // An arm without searches: the last one has guards.
 #[cycle(block)]
+#[tactic(auto, unfolding(crate::specs::Statements::plain_arm))]
 fn plain_arm(
     printer: &Printer<'_>,
     scope: Scope,
@@ -260,6 +263,7 @@ fn plain_arm(
 
 // An arm with searches.
 #[cycle(block)]
+#[tactic(auto, unfolding(crate::specs::Statements::searched_arm))]
 fn searched_arm(
     printer: &Printer<'_>,
     scope: Scope,
@@ -304,6 +308,7 @@ fn searched_arm(
 
 // The values of a block: in its place where it is straight.
 #[cycle(block)]
+#[tactic(auto, unfolding(crate::specs::Statements::in_place))]
 fn in_place(
     printer: &Printer<'_>,
     scope: &Scope,
@@ -323,6 +328,7 @@ fn in_place(
 
 // The values of a block by a function before this one.
 #[cycle(block)]
+#[tactic(auto, unfolding(crate::specs::Statements::called))]
 fn called(
     printer: &Printer<'_>,
     scope: &Scope,
@@ -411,6 +417,7 @@ fn held_inside(
 
 // The values behind a guard whose condition is at hand.
 #[cycle(block)]
+#[tactic(auto, unfolding(crate::specs::Statements::guarded))]
 fn guarded(
     printer: &Printer<'_>,
     scope: Scope,

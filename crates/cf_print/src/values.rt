@@ -78,6 +78,7 @@ fn is_variable(code: &Code) -> bool
 }
 
 // The value of an expression.
+#[tactic(auto, unfolding(crate::specs::Places::at_hand))]
 fn at_hand(walk: &Walk<'_>, code: &Code) -> Result<AtHand, NoMemory>
     ensures { IfOk result (λ v. v ≡ value_at_hand walk.now.table.now walk.now.scope.now (code_tree code.now)) }
 {
@@ -251,6 +252,7 @@ pub(crate) fn copies(alloc: Global, texts: &[Text]) -> Result<Vec<Text>, NoMemor
 }
 
 /// A scope with one value behind its variables.
+#[tactic(auto, unfolding(crate::specs::Places::behind_one))]
 pub(crate) fn with_one_behind(
     alloc: Global,
     scope: Scope,
@@ -277,6 +279,7 @@ pub(crate) fn behind(alloc: Global, scope: Scope, values: &[AtHand]) -> Result<S
 }
 
 /// A scope with a value before its variables.
+#[tactic(auto, unfolding(crate::specs::Places::ahead))]
 pub(crate) fn ahead(alloc: Global, value: &AtHand, scope: Scope) -> Result<Scope, NoMemory>
     ensures { IfOk result (λ s. s ≡ one_ahead value.now scope) }
 {

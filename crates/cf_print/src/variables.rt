@@ -88,6 +88,7 @@ fn with_value(value: AtHand, draft: Draft, values: Vec<AtHand>) -> Result<Held, 
     Ok(Held { values, draft })
 }
 
+#[tactic(auto, unfolding(crate::specs::PrinterView::setting_in, crate::specs::Statements::with_let))]
 fn with_let(
     printer: &Printer<'_>,
     depth: usize,
@@ -113,6 +114,7 @@ fn with_let(
     with_value(here, draft, values)
 }
 
+#[tactic(auto, unfolding(crate::specs::PrinterView::setting_in))]
 fn with_read(
     printer: &Printer<'_>,
     depth: usize,
@@ -130,6 +132,7 @@ fn with_read(
 }
 
 // A value in a variable, if it is none.
+#[tactic(auto, unfolding(crate::specs::Statements::with_variable))]
 fn with_variable(
     printer: &Printer<'_>,
     depth: usize,
@@ -166,6 +169,7 @@ fn wish_in(
 }
 
 /// Values for a block that reads them as the variables from a level on.
+#[tactic(auto, unfolding(crate::specs::Statements::bound_for, crate::specs::Statements::all_in_variables))]
 pub(crate) fn bound_for(
     printer: &Printer<'_>,
     place: Place,
@@ -185,6 +189,7 @@ pub(crate) fn bound_for(
 }
 
 /// Values in variables, each by the same wish.
+#[tactic(auto, unfolding(crate::specs::Statements::all_in_variables))]
 pub(crate) fn all_in_variables(
     printer: &Printer<'_>,
     depth: usize,
@@ -202,6 +207,7 @@ pub(crate) fn all_in_variables(
 }
 
 /// Values that stay as they are where no statement comes between.
+#[tactic(auto, unfolding(crate::specs::Statements::kept))]
 pub(crate) fn kept(
     printer: &Printer<'_>,
     depth: usize,
