@@ -3,13 +3,13 @@ use Rattle.std.specs.Prelude.{ℕ, ◌≡◌, true, false, List, [], ◌∷◌, 
 use Rattle.std.specs.Fmt.{digits}
 use Rattle.cf_tree.specs.declared.base.Base.{Base}
 use Rattle.cf_tree.specs.declared.base.Base.TheVariants.{Int, Bool as Truth, Set}
-use Rattle.cf_print.specs.Files.{python_line, python_reply, reply_names, c_declared, c_reads, c_call, c_writes, c_includes}
+use Rattle.cf_print.specs.Files.{line_text, python_reply, reply_names, c_declared, c_reads, c_call, c_writes, c_includes}
 
 -- ---- Python
-no_values : python_line [] ≡ codes "[ \\t]*"
+no_values : line_text [] ≡ codes "[ \\t]*"
 no_values = refl
 
-values : python_line (Int ∷ Truth ∷ Set ∷ []) ≡
+values : line_text (Int ∷ Truth ∷ Set ∷ []) ≡
     codes "[ \\t]*(-?[0-9]+)[ \\t]+(true|false)[ \\t]+(\\{[ \\t]*(?:-?[0-9]+[ \\t]*(?:,[ \\t]*-?[0-9]+[ \\t]*)*)?\\})[ \\t]*"
 values = refl
 

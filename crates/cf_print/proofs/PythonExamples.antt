@@ -161,9 +161,18 @@ calls = refl
 
 -- ---- C
 
-c_sum : in_c (sum (var 0 ∷ var 1 ∷ num 1 ∷ [])) ≡ codes "add(add(x, y, &past), 1, &past)"
+c_sum : in_c (sum (var 0 ∷ var 1 ∷ [])) ≡ codes "add(x, y, &past)"
 unfolding digits
 c_sum = refl
+
+-- one of more parts is one call, whose parts stand as they are
+total : python (sum (var 0 ∷ code_neg (var 1) ∷ num 1 ∷ [])) ≡ codes "total(x, -y, 1)"
+unfolding digits
+total = refl
+
+c_total : in_c (sum (var 0 ∷ code_neg (var 1) ∷ num 1 ∷ [])) ≡ codes "total((const whole[]){x, -y, 1, END}, &past)"
+unfolding digits
+c_total = refl
 
 c_numerals : in_c (sum (num 2 ∷ num 3 ∷ [])) ≡ codes "add(2, 3, &past)"
 unfolding digits

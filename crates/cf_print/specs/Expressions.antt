@@ -5,8 +5,8 @@ use Rattle.cf_tree.specs.declared.base.Base.TheVariants.{Int, Bool as Truth, Set
 use Rattle.cf_tree.specs.declared.base.Order.{Order}
 use Rattle.cf_tree.specs.declared.base.Order.TheVariants.{Eq, Ne, Lt, Le, Gt, Ge}
 use Rattle.cf_tree.specs.CodeTree.{CodeTree, code_lit, code_truth, code_var, code_set_of, code_tuple, code_sum, code_sub, code_mul, code_neg, code_div, code_mod, code_min, code_max, code_compare, code_divides, code_and, code_or, code_not, code_union, code_inter, code_diff, code_subset, code_card, code_slice, code_fresh, code_if, code_let, code_solve, CodeTrees, no_codes, code_more}
-use Rattle.cf_range.specs.Ranges.{plus, plus_passes, minus_passes, times_passes}
-use Rattle.cf_range.specs.CodeRanges.{range_of}
+use Rattle.cf_range.specs.Ranges.{minus_passes, times_passes}
+use Rattle.cf_range.specs.CodeRanges.{may_pass, range_of}
 use Rattle.cf_range.specs.declared.range.Range.{Range}
 use Rattle.cf_print.specs.Terms.{Term, Terms, word, before, between, call, choice, no_terms, term_more}
 use Rattle.cf_print.specs.Marks.{mark_text}
@@ -19,7 +19,7 @@ use Rattle.cf_print.specs.declared.table.Checked.{Checked}
 use Rattle.cf_print.specs.declared.table.Divided.{Divided}
 use Rattle.cf_print.specs.declared.table.Orders.{Orders}
 use Rattle.cf_print.specs.declared.table.Numerals.{Numerals}
-use Rattle.cf_print.specs.declared.table.Numerals.TheVariants.{Plain, Halved}
+use Rattle.cf_print.specs.declared.table.Numerals.TheVariants.{Plain, Halved, Big}
 use Rattle.cf_print.specs.declared.table.Table.{Table}
 use Rattle.cf_print.specs.declared.numeral.TheConstants.{INT_END, LONG_END, MAX, HALF}
 
@@ -56,6 +56,7 @@ halves n = (codes "from_halves(" ++ decimal (n / HALF)) ++ (codes ", " ++ decima
 -- a number that is not negative
 abbrev pub numeral : Numerals → ℕ → List ℕ
 numeral Plain n = decimal n
+numeral Big n = decimal n ++ codes "n"
 numeral Halved n =
     if nat_lt n INT_END then decimal n
     else if nat_lt n LONG_END then decimal n ++ codes "LL"
@@ -170,19 +171,16 @@ product t w a b x y = applied (form_of t.product (times_passes (range_of w.range
 abbrev pub difference : Table → Sight → CodeTree → CodeTree → Term → Term → Term
 difference t w a b x y = applied (form_of t.difference (minus_passes (range_of w.ranges a) (range_of w.ranges b) || both_small t a b)) x y
 
-abbrev pub two_pass : Table → Sight → CodeTree → CodeTree → Bool
-two_pass t w a b = plus_passes (range_of w.ranges a) (range_of w.ranges b) || both_small t a b
-
 -- one more part of a sum, or what is taken off in its place
 abbrev pub one_more : Table → Bool → Term → Option Term → Term → Term
 one_more t passes so_far (Some less) x = applied (form_of t.difference passes) so_far less
 one_more t passes so_far None x = applied (form_of t.sum passes) so_far x
 
--- the first two parts: the second first where something is taken off for the first alone
+-- two parts: the second first where something is taken off for the first alone
 abbrev pub first_two : Table → Bool → Option Term → Term → Option Term → Term → Term
-first_two t passes (Some less) x None y = one_more t passes y (Some less) x
-first_two t passes (Some less) x (Some lesser) y = one_more t passes x (Some lesser) y
-first_two t passes None x lesser y = one_more t passes x lesser y
+first_two t passes less x (Some lesser) y = applied (form_of t.difference passes) x lesser
+first_two t passes (Some less) x None y = applied (form_of t.difference passes) y less
+first_two t passes None x None y = applied (form_of t.sum passes) x y
 
 abbrev mutual
   pub term_of : Table → Sight → CodeTree → Term
@@ -191,7 +189,7 @@ abbrev mutual
   term_of t w (code_truth false) = word (mark_text t.no)
   term_of t w (code_var x) = word (slice_index_or w.names x [])
   term_of t w (code_set_of cs) = set_term t (terms_of t w cs)
-  term_of t w (code_sum cs) = sum_of t w cs
+  term_of t w (code_sum cs) = sum_of t w (may_pass w.ranges (code_sum cs)) (terms_of t w cs) cs
   term_of t w (code_sub a b) = difference t w a b (term_of t w a) (term_of t w b)
   term_of t w (code_mul a b) = product t w a b (term_of t w a) (term_of t w b)
   term_of t w (code_neg a) = before t.minus (term_of t w a)
@@ -237,16 +235,17 @@ abbrev mutual
   below_of t w (code_mul a b) = option_map (λ k. product t w a b (digits t k) (term_of t w b)) (below_zero a)
   below_of t w c = None
 
-  -- a sum; where the first part alone is below 0, the second stands first
-  pub sum_of : Table → Sight → CodeTrees → Term
-  sum_of t w no_codes = literal t (pos 0)
-  sum_of t w (code_more a no_codes) = term_of t w a
-  sum_of t w (code_more a (code_more b cs)) =
-      sum_behind t w (plus (range_of w.ranges a) (range_of w.ranges b))
-      (first_two t (two_pass t w a b) (below_of t w a) (term_of t w a) (below_of t w b) (term_of t w b)) cs
+  -- a sum; one of three parts or more is a call on all where a number on the way may be past the limit
+  pub sum_of : Table → Sight → Bool → Terms → CodeTrees → Term
+  sum_of t w passes all no_codes = literal t (pos 0)
+  sum_of t w passes all (code_more a no_codes) = term_of t w a
+  sum_of t w passes all (code_more a (code_more b no_codes)) =
+      first_two t (passes || both_small t a b) (below_of t w a) (term_of t w a) (below_of t w b) (term_of t w b)
+  sum_of t w passes all (code_more a (code_more b (code_more c cs))) =
+      if passes then call t.total all
+      else sum_behind t w (first_two t (both_small t a b) (below_of t w a) (term_of t w a) (below_of t w b) (term_of t w b)) (code_more c cs)
 
-  -- a sum that has come to a term, in a range, and all other parts
-  pub sum_behind : Table → Sight → Range → Term → CodeTrees → Term
-  sum_behind t w r so_far no_codes = so_far
-  sum_behind t w r so_far (code_more c cs) =
-      sum_behind t w (plus r (range_of w.ranges c)) (one_more t (plus_passes r (range_of w.ranges c)) so_far (below_of t w c) (term_of t w c)) cs
+  -- a sum that has come to a term, and all other parts
+  pub sum_behind : Table → Sight → Term → CodeTrees → Term
+  sum_behind t w so_far no_codes = so_far
+  sum_behind t w so_far (code_more c cs) = sum_behind t w (one_more t false so_far (below_of t w c) (term_of t w c)) cs

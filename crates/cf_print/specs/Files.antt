@@ -7,11 +7,12 @@ use Rattle.cf_stmt.specs.Blocks.{Block, give, none, leave, bind, part, join, tes
 use Rattle.cf_print.specs.Names.{holds, is_numbered}
 use Rattle.cf_print.specs.Pieces.{joined}
 use Rattle.cf_print.specs.Layout.{base_text, unread_lines, addresses}
-use Rattle.cf_print.specs.Heads.{all_parameters, head_text, parameter_text}
+use Rattle.cf_print.specs.Heads.{all_parameters, head_text, parameter_text, results_text}
 use Rattle.cf_print.specs.declared.emission.Language.{Language}
 use Rattle.cf_print.specs.declared.emission.Language.TheVariants.{C, Python, JavaScript, Rust}
 use Rattle.cf_print.specs.declared.helpers.Helper.{Helper}
-use Rattle.cf_print.specs.declared.helpers.TheConstants.{PYTHON, C as C_HELPERS, C_DEFINITIONS}
+use Rattle.cf_print.specs.declared.helpers.TheConstants.{PYTHON, C as C_HELPERS, C_DEFINITIONS, JAVASCRIPT}
+use Rattle.cf_print.specs.declared.javascript.TheConstants.{FILTER as JS_FILTER, REPLY as JS_REPLY, FILTER_MAIN as JS_FILTER_MAIN}
 use Rattle.cf_print.specs.declared.python.TheConstants.{IMPORTS, FILTER, REPLY, OUTCOME, FILTER_MAIN}
 use Rattle.cf_print.specs.declared.c.TheConstants.{POSIX, STANDARD, STRING, NUMBERS as NUMBERS_OF_C, STATUS, INCLUDES, PUT, READ_NUMBER, READ_TRUTH, REPLY as C_REPLY, LONG_LINE, BAD_INPUT, TOLD, FILTER_MAIN as C_FILTER_MAIN}
 
@@ -196,7 +197,7 @@ pub record Called : Type 0 where
 abbrev pub called_head : Language → Called → List ℕ
 called_head Python f = head_text Python f.name (called_parameters f.params f.bases) f.results
 called_head C f = head_text C f.name (all_parameters C f.params f.bases f.pointers f.results) f.results
-called_head JavaScript f = []
+called_head JavaScript f = codes "export " ++ head_text JavaScript f.name (all_parameters JavaScript f.params f.bases f.pointers f.results) f.results
 called_head Rust f = []
 
 -- a line for each variable of C that no statement reads
@@ -217,10 +218,39 @@ c_opening is_filter f =
     codes " * COMFUSY_OVERFLOW where a number is past MAX.\n */\n" ∷ when is_filter (codes "static ") ∷ called_head C f ∷
     codes "\n{\n    bool past = false;\n" ∷ c_checks (below_texts f.params f.bases) ∷ all_unread f.unread ∷ [])
 
+-- what a caller of JavaScript gives: any iterable for a set
+abbrev pub js_base : Base → List ℕ
+js_base Int = base_text JavaScript Int
+js_base Truth = base_text JavaScript Truth
+js_base Set = codes "Iterable<bigint>"
+
+abbrev pub js_param : List ℕ → Base → List ℕ
+js_param x b = concat (codes " * @param {" ∷ js_base b ∷ codes "} " ∷ x ∷ codes "\n" ∷ [])
+
+abbrev pub js_params : List (List ℕ) → List Base → List ℕ
+js_params (x ∷ xs) (b ∷ bs) = js_param x b ++ js_params xs bs
+js_params _ _ = []
+
+abbrev pub js_check : List ℕ → Base → List ℕ
+js_check x Int = concat (codes "  whole(" ∷ x ∷ codes ");\n" ∷ [])
+js_check x Truth = concat (codes "  truth(" ∷ x ∷ codes ");\n" ∷ [])
+js_check x Set = concat (codes "  " ∷ x ∷ codes " = numbers(" ∷ x ∷ codes ");\n" ∷ [])
+
+abbrev pub js_checks : List (List ℕ) → List Base → List ℕ
+js_checks (x ∷ xs) (b ∷ bs) = js_check x b ++ js_checks xs bs
+js_checks _ _ = []
+
+abbrev pub js_opening : Called → List ℕ
+js_opening f =
+    concat (codes "\n/**\n * " ∷ about_main f.result_names ∷ codes "\n" ∷ about_nones (codes " * ") (codes "NoSolution") f.nones ∷
+    codes " * Overflow where a number is past MAX.\n *\n" ∷ js_params f.params f.bases ∷ codes " * @returns {" ∷
+    results_text JavaScript f.results ∷ codes "}\n * @throws {NoSolution | Overflow}\n */\n" ∷ called_head JavaScript f ∷
+    js_checks f.params f.bases ∷ [])
+
 abbrev pub opening_of : Language → Bool → Called → List ℕ
 opening_of Python is_filter f = python_opening f
 opening_of C is_filter f = c_opening is_filter f
-opening_of JavaScript is_filter f = []
+opening_of JavaScript is_filter f = js_opening f
 opening_of Rust is_filter f = []
 
 abbrev pub end_of : Language → List ℕ
@@ -238,23 +268,23 @@ c_includes is_filter bs =
 
 -- ---- filters: the file answers lines, as `exec` does
 
--- how a value stands in a line, as a pattern
-abbrev pub python_pattern : Base → List ℕ
-python_pattern Int = codes "(-?[0-9]+)"
-python_pattern Truth = codes "(true|false)"
-python_pattern Set = codes "(\\{[ \\t]*(?:-?[0-9]+[ \\t]*(?:,[ \\t]*-?[0-9]+[ \\t]*)*)?\\})"
+-- how a value stands in a line, as a pattern, and how all do
+abbrev pub line_pattern : Base → List ℕ
+line_pattern Int = codes "(-?[0-9]+)"
+line_pattern Truth = codes "(true|false)"
+line_pattern Set = codes "(\\{[ \\t]*(?:-?[0-9]+[ \\t]*(?:,[ \\t]*-?[0-9]+[ \\t]*)*)?\\})"
 
-abbrev pub python_line : List Base → List ℕ
-python_line bs =
+abbrev pub line_text : List Base → List ℕ
+line_text bs =
     if nat_eq (length bs) 0 then codes "[ \\t]*"
-    else concat (codes "[ \\t]*" ∷ joined (codes "[ \\t]+") (map python_pattern bs) ∷ codes "[ \\t]*" ∷ [])
+    else concat (codes "[ \\t]*" ∷ joined (codes "[ \\t]+") (map line_pattern bs) ∷ codes "[ \\t]*" ∷ [])
 
 abbrev pub python_reply : List Base → List ℕ
 python_reply bs = if nat_eq (length bs) 1 then codes "written(outcome)" else codes "\" \".join(map(written, outcome))"
 
 abbrev pub python_filter : Called → List ℕ
 python_filter f =
-    concat (FILTER.now ∷ python_line f.bases ∷ REPLY.now ∷ f.name ∷ OUTCOME.now ∷ python_reply f.results ∷ FILTER_MAIN.now ∷ [])
+    concat (FILTER.now ∷ line_text f.bases ∷ REPLY.now ∷ f.name ∷ OUTCOME.now ∷ python_reply f.results ∷ FILTER_MAIN.now ∷ [])
 
 -- in C the variables of a reply: p0, p1, .. and o0, o1, .., where none of these is the name of the function
 abbrev pub numbers_a_value : List ℕ → Bool
@@ -318,10 +348,19 @@ c_filter f =
     concat (PUT.now ∷ c_readers f.bases ∷ C_REPLY.now ∷ c_declared f.bases params ∷ c_declared f.results outputs ∷ LONG_LINE.now ∷
     c_reads true f.bases params ∷ BAD_INPUT.now ∷ c_call f.name params outputs ∷ TOLD.now ∷ c_writes true f.results outputs ∷ C_FILTER_MAIN.now ∷ [])
 
+-- in JavaScript, on the values of a line
+abbrev pub js_reply : List ℕ → List Base → List ℕ
+js_reply name bs =
+    if nat_eq (length bs) 1 then concat (codes "written(" ∷ name ∷ codes "(...values))" ∷ [])
+    else concat (name ∷ codes "(...values).map(written).join(\" \")" ∷ [])
+
+abbrev pub js_filter : Called → List ℕ
+js_filter f = concat (JS_FILTER.now ∷ line_text f.bases ∷ JS_REPLY.now ∷ js_reply f.name f.results ∷ JS_FILTER_MAIN.now ∷ [])
+
 abbrev pub filter_of : Language → Called → List ℕ
 filter_of Python f = python_filter f
 filter_of C f = c_filter f
-filter_of JavaScript f = []
+filter_of JavaScript f = js_filter f
 filter_of Rust f = []
 
 -- the file of a function, whose text this is with that of those before it
@@ -338,8 +377,11 @@ c_body has_main f text = with_helpers C_DEFINITIONS.now ((STATUS.now ++ prototyp
 abbrev pub c_file : Bool → List ℕ → Called → List ℕ → List ℕ
 c_file has_main source f text = (head_of C source ++ c_includes has_main f.bases) ++ c_body has_main f text
 
+abbrev pub js_file : List ℕ → List ℕ → List ℕ
+js_file source text = head_of JavaScript source ++ with_helpers JAVASCRIPT.now text
+
 abbrev pub file_of : Language → Bool → List ℕ → Called → List ℕ → List ℕ
 file_of Python has_main source f functions = python_file has_main source (functions ++ when has_main (filter_of Python f))
 file_of C has_main source f functions = c_file has_main source f (functions ++ when has_main (filter_of C f))
-file_of JavaScript has_main source f functions = []
+file_of JavaScript has_main source f functions = js_file source (functions ++ when has_main (filter_of JavaScript f))
 file_of Rust has_main source f functions = []

@@ -28,10 +28,16 @@ abbrev pub all_base_texts : Language → List Base → List (List ℕ)
 all_base_texts l bs = map (base_text l) bs
 
 -- what a function gives, as its first line says it: one value alone, several as a tuple
+abbrev pub results_with : Language → List ℕ → List ℕ
+results_with Python all = concat (codes "tuple[" ∷ all ∷ codes "]" ∷ [])
+results_with C all = concat (codes "tuple[" ∷ all ∷ codes "]" ∷ [])
+results_with JavaScript all = concat (codes "[" ∷ all ∷ codes "]" ∷ [])
+results_with Rust all = concat (codes "(" ∷ all ∷ codes ")" ∷ [])
+
 abbrev pub results_text : Language → List Base → List ℕ
 results_text l (b ∷ []) = base_text l b
-results_text Rust bs = concat (codes "(" ∷ joined (codes ", ") (all_base_texts Rust bs) ∷ codes ")" ∷ [])
-results_text l bs = concat (codes "tuple[" ∷ joined (codes ", ") (all_base_texts l bs) ∷ codes "]" ∷ [])
+results_text l (b ∷ c ∷ bs) = results_with l (joined (codes ", ") (all_base_texts l (b ∷ c ∷ bs)))
+results_text l [] = results_with l []
 
 -- the first line of a function, by its parameters and results
 abbrev pub head_with : Language → List ℕ → List ℕ → List ℕ → List ℕ

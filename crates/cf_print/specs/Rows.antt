@@ -3,14 +3,15 @@ use Rattle.std.specs.Prelude.{ℕ, List}
 use Rattle.cf_print.specs.declared.emission.Language.{Language}
 use Rattle.cf_print.specs.declared.emission.Language.TheVariants.{C, Python, JavaScript, Rust}
 use Rattle.cf_print.specs.declared.table.Table.{Table}
-use Rattle.cf_print.specs.declared.table.TheConstants.{PYTHON, C as C_TABLE}
-use Rattle.cf_print.specs.declared.words.TheConstants.{PYTHON_WORDS, C_WORDS}
+use Rattle.cf_print.specs.declared.table.TheConstants.{PYTHON, C as C_TABLE, JAVASCRIPT}
+use Rattle.cf_print.specs.declared.words.TheConstants.{PYTHON_WORDS, C_WORDS, JAVASCRIPT_WORDS}
 
--- the languages that have rows so far
 abbrev pub table_of : Language → Table
 table_of C = C_TABLE
-table_of l = PYTHON
+table_of Python = PYTHON
+table_of JavaScript = JAVASCRIPT
 
 abbrev pub words_of : Language → List ℕ
 words_of C = C_WORDS.now
-words_of l = PYTHON_WORDS.now
+words_of Python = PYTHON_WORDS.now
+words_of JavaScript = JAVASCRIPT_WORDS.now

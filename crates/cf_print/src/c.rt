@@ -44,6 +44,21 @@ static inline whole add(whole a, whole b, bool *past)
 
 ";
 
+/// The sum of three numbers or more.
+pub const TOTAL: &[u8] = b"/* Behind the parts of a sum. */
+#define END (-MAX - 1)
+
+/* The sum of the parts, from left to right; past is set where that is past MAX on its way. */
+static inline whole total(const whole *parts, bool *past)
+{
+    whole sum = 0;
+    for (; *parts != END; parts++)
+        sum = add(sum, *parts, past);
+    return sum;
+}
+
+";
+
 /// A difference.
 pub const SUB: &[u8] = b"/* a - b; past is set where that is past MAX. */
 static inline whole sub(whole a, whole b, bool *past)

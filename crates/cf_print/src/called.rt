@@ -3,11 +3,11 @@ ghost use Rattle.std.specs.Prelude.{◌≡◌, ◌++◌, ◌∷◌, [], codes, d
 ghost use Rattle.std.specs.List.{list_any, list_all};
 ghost use Rattle.cf_stmt.specs.BlockView.{block_tree};
 ghost use Rattle.cf_print.specs.declared.emission.Language.TheVariants.{C};
-ghost use Rattle.cf_print.specs.Files.{about_main as about_all, about_nones as about_all_nones, all_unread, below_text as below_one, below_texts as all_below, c_checks as checks_of_c, c_opening, called_head as head_of_called, called_parameter as parameter_of_called, called_parameters as parameters_of_called, end_of as last_line, nones_of as all_nones, opening_of as opening_for, python_check as check_of, python_checks as checks_of, python_opening, status_text as status_of, with_number as with_the_number};
+ghost use Rattle.cf_print.specs.Files.{about_main as about_all, about_nones as about_all_nones, all_unread, below_text as below_one, below_texts as all_below, c_checks as checks_of_c, c_opening, called_head as head_of_called, called_parameter as parameter_of_called, called_parameters as parameters_of_called, end_of as last_line, js_base as js_base_of, js_check, js_checks, js_opening, js_param, js_params, nones_of as all_nones, opening_of as opening_for, python_check as check_of, python_checks as checks_of, python_opening, status_text as status_of, with_number as with_the_number};
 
 use crate::emission::Language;
-use crate::heads::{all_parameters, head_text, parameter_text};
-use crate::layout;
+use crate::heads::{all_parameters, head_text, parameter_text, results_text};
+use crate::layout::{self, base_text};
 use crate::pieces::{joined_text, put_pieces, text_of_pieces};
 use crate::when::when;
 use cf_stmt::Block;
@@ -325,7 +325,19 @@ pub(crate) fn called_head(
                 &function.results,
             )
         }
-        Language::JavaScript | Language::Rust => Ok(Text {
+        Language::JavaScript => {
+            let params = all_parameters(
+                alloc,
+                language,
+                &function.params,
+                &function.bases,
+                &function.pointers,
+                &function.results,
+            )?;
+            let head = head_text(alloc, language, &function.name.bytes, &params, &function.results)?;
+            text_of_pieces(alloc, &[b"export ".as_slice(), head.bytes.as_slice()])
+        }
+        Language::Rust => Ok(Text {
             bytes: Vec::new(alloc),
         }),
     }
@@ -393,6 +405,114 @@ fn c_opening_of(alloc: Global, is_filter: bool, function: &Called) -> Result<Tex
     )
 }
 
+// What a caller of JavaScript gives.
+fn js_base(base: Base) -> &'static [u8]
+    ensures { result.now ≡ js_base_of base }
+{
+    match base {
+        Base::Int => base_text(Language::JavaScript, Base::Int),
+        Base::Bool => base_text(Language::JavaScript, Base::Bool),
+        Base::Set => b"Iterable<bigint>",
+    }
+}
+
+fn put_js_param(out: &mut Vec<u8>, name: &[u8], base: Base) -> Result<(), NoMemory>
+    ensures { OnOk result (out.new.items ≡ out.old.items ++ js_param name.now base) }
+{
+    put_pieces(
+        out,
+        &[
+            b" * @param {".as_slice(),
+            js_base(base),
+            b"} ".as_slice(),
+            name,
+            b"\n".as_slice(),
+        ],
+    )
+}
+
+fn put_js_params(out: &mut Vec<u8>, names: &[Text], bases: &[Base]) -> Result<(), NoMemory>
+    ensures { OnOk result (out.new.items ≡ out.old.items ++ js_params names.now bases.now) }
+{
+    let mut left = bases;
+    for name in names {
+        match left.split_first() {
+            None => return Ok(()),
+            Some((base, more)) => {
+                put_js_param(out, &name.bytes, *base)?;
+                left = more;
+            }
+        }
+    }
+    Ok(())
+}
+
+// The check of an argument of JavaScript.
+fn put_js_check(out: &mut Vec<u8>, name: &[u8], base: Base) -> Result<(), NoMemory>
+    ensures { OnOk result (out.new.items ≡ out.old.items ++ js_check name.now base) }
+{
+    match base {
+        Base::Int => put_pieces(out, &[b"  whole(".as_slice(), name, b");\n".as_slice()]),
+        Base::Bool => put_pieces(out, &[b"  truth(".as_slice(), name, b");\n".as_slice()]),
+        Base::Set => put_pieces(
+            out,
+            &[
+                b"  ".as_slice(),
+                name,
+                b" = numbers(".as_slice(),
+                name,
+                b");\n".as_slice(),
+            ],
+        ),
+    }
+}
+
+fn put_js_checks(out: &mut Vec<u8>, names: &[Text], bases: &[Base]) -> Result<(), NoMemory>
+    ensures { OnOk result (out.new.items ≡ out.old.items ++ js_checks names.now bases.now) }
+{
+    let mut left = bases;
+    for name in names {
+        match left.split_first() {
+            None => return Ok(()),
+            Some((base, more)) => {
+                put_js_check(out, &name.bytes, *base)?;
+                left = more;
+            }
+        }
+    }
+    Ok(())
+}
+
+// What stands before its first statement in JavaScript.
+fn js_opening_of(alloc: Global, function: &Called) -> Result<Text, NoMemory>
+    ensures { IfOk result (λ t. t ≡ js_opening function.now) }
+{
+    let head = called_head(alloc, Language::JavaScript, function)?;
+    let about = about_main(alloc, &function.result_names)?;
+    let nones = about_nones(alloc, b" * ", b"NoSolution", &function.nones)?;
+    let mut params = Vec::new(alloc);
+    put_js_params(&mut params, &function.params, &function.bases)?;
+    let results = results_text(alloc, Language::JavaScript, &function.results)?;
+    let mut checks = Vec::new(alloc);
+    put_js_checks(&mut checks, &function.params, &function.bases)?;
+    text_of_pieces(
+        alloc,
+        &[
+            b"\n/**\n * ".as_slice(),
+            about.bytes.as_slice(),
+            b"\n".as_slice(),
+            nones.bytes.as_slice(),
+            b" * Overflow where a number is past MAX.\n *\n".as_slice(),
+            params.as_slice(),
+            b" * @returns {".as_slice(),
+            results.bytes.as_slice(),
+            b"}\n * @throws {NoSolution | Overflow}\n */\n".as_slice(),
+            head.bytes.as_slice(),
+            checks.as_slice(),
+        ],
+    )
+}
+
 /// Its lines before its first statement.
 pub(crate) fn opening_of(
     alloc: Global,
@@ -405,7 +525,8 @@ pub(crate) fn opening_of(
     match language {
         Language::Python => python_opening_of(alloc, function),
         Language::C => c_opening_of(alloc, is_filter, function),
-        Language::JavaScript | Language::Rust => Ok(Text {
+        Language::JavaScript => js_opening_of(alloc, function),
+        Language::Rust => Ok(Text {
             bytes: Vec::new(alloc),
         }),
     }

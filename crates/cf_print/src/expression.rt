@@ -3,12 +3,12 @@ ghost use Rattle.std.specs.Prelude.{◌≡◌, ◌||◌, ◌&&◌, IfOk, option_
 ghost use Rattle.cf_tree.specs.declared.base.Base.TheVariants.{Int};
 ghost use Rattle.cf_tree.specs.declared.base.Order.TheVariants.{Eq, Ne};
 ghost use Rattle.cf_tree.specs.CodeView.{code_tree, code_trees};
-ghost use Rattle.cf_range.specs.Ranges.{plus, plus_passes, minus_passes, times_passes};
-ghost use Rattle.cf_range.specs.CodeRanges.{range_of};
-ghost use Rattle.cf_print.specs.Terms.{word, before, between};
+ghost use Rattle.cf_range.specs.Ranges.{minus_passes, times_passes};
+ghost use Rattle.cf_range.specs.CodeRanges.{may_pass, range_of};
+ghost use Rattle.cf_print.specs.Terms.{word, before, between, call};
 ghost use Rattle.cf_print.specs.TermView.{term_tree, term_trees};
 ghost use Rattle.cf_print.specs.Summing.{two_summed, one_summed};
-ghost use Rattle.cf_print.specs.Expressions.{base_of as base, is_small, both_small, is_natural, below_zero, product as product_of, one_more as one_more_of, first_two as first_two_of, applied as applied_of, comparison as comparison_of, literal as literal_of, difference as difference_of, applied_on, applied_all, set_term, term_of as term, terms_of, opposite_of, opposites, below_of, sum_of, sum_behind, denied as denied_of, divided_term, division as division_of, form_of as form};
+ghost use Rattle.cf_print.specs.Expressions.{base_of as base, is_small, both_small, is_natural, below_zero, product as product_of, applied as applied_of, comparison as comparison_of, literal as literal_of, difference as difference_of, applied_on, applied_all, set_term, term_of as term, terms_of, opposite_of, opposites, below_of, sum_of, sum_behind, denied as denied_of, divided_term, division as division_of, form_of as form};
 
 use crate::build::{
     applied, before, between, call_on_all, call_on_one, call_on_three, call_on_two, chosen,
@@ -19,7 +19,7 @@ use crate::numeral::{digits, literal};
 use crate::scope::Scope;
 use crate::table::{Divided, Form, Sign, Table};
 use crate::term::Term;
-use cf_range::{Range, range_of};
+use cf_range::{Range, may_pass, range_of};
 use cf_tree::{Base, Code, NoMemory, Order};
 use std::alloc::Global;
 
@@ -172,17 +172,6 @@ fn difference(walk: &Walk<'_>, a: &Code, b: &Code, x: Term, y: Term) -> Result<T
     applied(walk.alloc, &form, x, y)
 }
 
-// A condition that is denied, by its opposite where it has one.
-fn denied(walk: &Walk<'_>, opposite: Option<Term>, a: Term) -> Result<Term, NoMemory>
-    ensures { IfOk result (λ t. term_tree t ≡ denied_of walk.now.table.now (option_map term_tree opposite) (term_tree a)) }
-{
-    let table = walk.table;
-    match opposite {
-        Some(x) => Ok(x),
-        None => before(walk.alloc, table.not, a),
-    }
-}
-
 // The opposite of a condition that is joined of two, where both have one.
 fn opposites(
     walk: &Walk<'_>,
@@ -201,48 +190,32 @@ fn opposites(
     }
 }
 
-// One more part of a sum, or what is taken off in its place.
-fn one_more(
-    walk: &Walk<'_>,
-    passes: bool,
-    so_far: Term,
-    less: Option<Term>,
-    x: Term,
-) -> Result<Term, NoMemory>
-    ensures { IfOk result (λ t. term_tree t ≡
-        one_more_of walk.now.table.now passes (term_tree so_far) (option_map term_tree less) (term_tree x)) }
+// A part less, and a part more.
+fn less_by(walk: &Walk<'_>, passes: bool, so_far: Term, less: Term) -> Result<Term, NoMemory>
+    ensures { IfOk result (λ t. term_tree t ≡ applied_of (form walk.now.table.now.difference passes) (term_tree so_far) (term_tree less)) }
 {
     let table = walk.table;
-    match less {
-        Some(less) => applied(
-            walk.alloc,
-            &form_of(&table.difference, passes),
-            so_far,
-            less,
-        ),
-        None => applied(walk.alloc, &form_of(&table.sum, passes), so_far, x),
-    }
+    applied(
+        walk.alloc,
+        &form_of(&table.difference, passes),
+        so_far,
+        less,
+    )
 }
 
-/// A part of a sum: its term, and what is taken off where it is below 0; its range, and whether it is of numerals alone.
-#[derive(Drop)]
-struct SumPart {
-    less: Option<Term>,
-    term: Term,
-    range: Range,
-    is_small: bool,
-}
-
-// The first two parts of a sum.
-fn first_two(walk: &Walk<'_>, passes: bool, a: SumPart, b: SumPart) -> Result<Term, NoMemory>
-    ensures { IfOk result (λ t. term_tree t ≡
-        first_two_of walk.now.table.now passes (option_map term_tree a.less) (term_tree a.term) (option_map term_tree b.less) (term_tree b.term)) }
+fn more_by(walk: &Walk<'_>, passes: bool, so_far: Term, more: Term) -> Result<Term, NoMemory>
+    ensures { IfOk result (λ t. term_tree t ≡ applied_of (form walk.now.table.now.sum passes) (term_tree so_far) (term_tree more)) }
 {
-    if a.less.is_some() && b.less.is_none() {
-        one_more(walk, passes, b.term, a.less, a.term)
-    } else {
-        one_more(walk, passes, a.term, b.less, b.term)
-    }
+    let table = walk.table;
+    applied(walk.alloc, &form_of(&table.sum, passes), so_far, more)
+}
+
+// Whether a sum may meet a number past the limit on its way.
+fn sum_passes(walk: &Walk<'_>, code: &Code) -> bool
+    ensures { result ≡ may_pass walk.now.scope.now.ranges (code_tree code.now) }
+{
+    let scope = walk.scope;
+    may_pass(&scope.ranges, code)
 }
 
 /// The term of an expression.
@@ -257,7 +230,7 @@ pub(crate) fn term_of(walk: &Walk<'_>, code: &Code) -> Result<Term, NoMemory>
         Code::Truth(false) => word(walk.alloc, bytes(table.no)),
         Code::Var(x) => name_at(walk, *x),
         Code::SetOf(parts) => set_of(walk, parts),
-        Code::Sum(parts) => sum(walk, parts),
+        Code::Sum(parts) => sum(walk, parts, sum_passes(walk, code)),
         Code::Sub(a, b) => {
             let left = term_of(walk, a)?;
             let parts = two_terms(walk, b, left)?;
@@ -402,9 +375,20 @@ pub(crate) fn not(walk: &Walk<'_>, a: &Code) -> Result<Term, NoMemory>
     ensures { IfOk result (λ t. term_tree t ≡ denied_of walk.now.table.now (opposite_of walk.now.table.now walk.now.scope.now (code_tree a.now))
         (term walk.now.table.now walk.now.scope.now (code_tree a.now))) }
 {
-    let opposite = opposite_of(walk, a)?;
+    match opposite_of(walk, a)? {
+        Some(opposite) => Ok(opposite),
+        None => denied(walk, a),
+    }
+}
+
+// A condition with a sign before it.
+#[cycle(term_of)]
+fn denied(walk: &Walk<'_>, a: &Code) -> Result<Term, NoMemory>
+    ensures { IfOk result (λ t. term_tree t ≡ before walk.now.table.now.not (term walk.now.table.now walk.now.scope.now (code_tree a.now))) }
+{
+    let table = walk.table;
     let part = term_of(walk, a)?;
-    denied(walk, opposite, part)
+    before(walk.alloc, table.not, part)
 }
 
 // The opposite of a condition, where it has one that needs no sign before it.
@@ -464,104 +448,97 @@ fn below_of(walk: &Walk<'_>, code: &Code) -> Result<Option<Term>, NoMemory>
     }
 }
 
+// A sum, which may pass the limit on its way or not.
 #[cycle(term_of)]
-fn summand(walk: &Walk<'_>, code: &Code) -> Result<SumPart, NoMemory>
-    ensures { IfOk result (λ s. (option_map term_tree s.less ≡ below_of walk.now.table.now walk.now.scope.now (code_tree code.now)) ×
-        (term_tree s.term ≡ term walk.now.table.now walk.now.scope.now (code_tree code.now)) ×
-        (s.range ≡ range_of walk.now.scope.now.ranges (code_tree code.now)) ×
-        (s.is_small ≡ is_small (code_tree code.now))) }
-{
-    let less = below_of(walk, code)?;
-    let term = term_of(walk, code)?;
-    Ok(SumPart {
-        less,
-        term,
-        range: range_at(walk, code),
-        is_small: is_small(code),
-    })
-}
-
-#[cycle(term_of)]
-fn sum(walk: &Walk<'_>, parts: &[Code]) -> Result<Term, NoMemory>
-    ensures { IfOk result (λ t. term_tree t ≡ sum_of walk.now.table.now walk.now.scope.now (code_trees parts.now)) }
+fn sum(walk: &Walk<'_>, parts: &[Code], passes: bool) -> Result<Term, NoMemory>
+    ensures { IfOk result (λ t. term_tree t ≡ sum_of walk.now.table.now walk.now.scope.now passes
+        (terms_of walk.now.table.now walk.now.scope.now (code_trees parts.now)) (code_trees parts.now)) }
 {
     match parts {
         [] => literal(walk.alloc, walk.table, 0),
         [only] => term_of(walk, only),
-        [a, b, ..] => {
-            let first = summand(walk, a)?;
-            let start = two_summed(walk, b, first)?;
+        [_, _] => two_summed(walk, parts, passes),
+        [_, _, _, ..] => if passes {
+            total(walk, parts)
+        } else {
+            let start = two_summed(walk, parts, false)?;
             sum_behind(walk, parts, start)
-        }
+        },
     }
 }
 
-/// A sum that goes on: what it has come to, and in which range.
-#[derive(Drop)]
-struct SoFar {
-    term: Term,
-    range: Range,
+// A sum by a call on all its parts.
+#[cycle(term_of)]
+fn total(walk: &Walk<'_>, parts: &[Code]) -> Result<Term, NoMemory>
+    ensures { IfOk result (λ t. term_tree t ≡
+        call walk.now.table.now.total (terms_of walk.now.table.now walk.now.scope.now (code_trees parts.now))) }
+{
+    let table = walk.table;
+    let all = terms(walk, parts)?;
+    Ok(call_on_all(table.total, all))
 }
 
-// The first two parts of a sum.
+// The sum of the first two parts, of which only what is printed is made.
 #[cycle(term_of)]
-fn two_summed(walk: &Walk<'_>, code: &Code, a: SumPart) -> Result<SoFar, NoMemory>
-    ensures { IfOk result (λ s. (term_tree s.term ≡
-        two_summed walk.now.table.now walk.now.scope.now (option_map term_tree a.less) (term_tree a.term) a.range a.is_small (code_tree code.now)) ×
-        (s.range ≡ plus a.range (range_of walk.now.scope.now.ranges (code_tree code.now)))) }
+fn two_summed(walk: &Walk<'_>, parts: &[Code], passes: bool) -> Result<Term, NoMemory>
+    ensures { IfOk result (λ t. term_tree t ≡ two_summed walk.now.table.now walk.now.scope.now passes (code_trees parts.now)) }
 {
-    let second = summand(walk, code)?;
-    start_of(walk, a, second)
+    match parts {
+        [a, b, ..] => {
+            let checks = passes || both_small(walk.table, a, b);
+            match below_of(walk, b)? {
+                Some(lesser) => {
+                    let first = term_of(walk, a)?;
+                    less_by(walk, checks, first, lesser)
+                }
+                None => match below_of(walk, a)? {
+                    Some(less) => {
+                        let second = term_of(walk, b)?;
+                        less_by(walk, checks, second, less)
+                    }
+                    None => {
+                        let first = term_of(walk, a)?;
+                        with_part(walk, b, checks, first)
+                    }
+                },
+            }
+        }
+        _ => word(walk.alloc, b""),
+    }
 }
 
-// One more part of a sum.
+// A sum with one part behind it.
 #[cycle(term_of)]
-fn one_summed(walk: &Walk<'_>, code: &Code, so_far: SoFar) -> Result<SoFar, NoMemory>
-    ensures { IfOk result (λ s. (term_tree s.term ≡
-        one_summed walk.now.table.now walk.now.scope.now so_far.range (term_tree so_far.term) (code_tree code.now)) ×
-        (s.range ≡ plus so_far.range (range_of walk.now.scope.now.ranges (code_tree code.now)))) }
+fn with_part(walk: &Walk<'_>, code: &Code, passes: bool, so_far: Term) -> Result<Term, NoMemory>
+    ensures { IfOk result (λ t. term_tree t ≡ applied_of (form walk.now.table.now.sum passes) (term_tree so_far)
+        (term walk.now.table.now walk.now.scope.now (code_tree code.now))) }
 {
-    let next = summand(walk, code)?;
-    sum_with(walk, so_far, next)
+    let part = term_of(walk, code)?;
+    more_by(walk, passes, so_far, part)
+}
+
+// One more part of a sum, or what is taken off in its place.
+#[cycle(term_of)]
+fn one_summed(walk: &Walk<'_>, code: &Code, so_far: Term) -> Result<Term, NoMemory>
+    ensures { IfOk result (λ t. term_tree t ≡ one_summed walk.now.table.now walk.now.scope.now (term_tree so_far) (code_tree code.now)) }
+{
+    match below_of(walk, code)? {
+        Some(less) => less_by(walk, false, so_far, less),
+        None => with_part(walk, code, false, so_far),
+    }
 }
 
 // A sum that goes on behind its first two parts.
 #[cycle(term_of)]
-fn sum_behind(walk: &Walk<'_>, parts: &[Code], start: SoFar) -> Result<Term, NoMemory>
+fn sum_behind(walk: &Walk<'_>, parts: &[Code], start: Term) -> Result<Term, NoMemory>
     ensures { IfOk result (λ t. term_tree t ≡
-        sum_behind walk.now.table.now walk.now.scope.now start.range (term_tree start.term) (code_trees (drop 2 parts.now))) }
+        sum_behind walk.now.table.now walk.now.scope.now (term_tree start) (code_trees (drop 2 parts.now))) }
 {
     let mut so_far = start;
     for i in 2..parts.len() {
         so_far = one_summed(walk, &parts[i], so_far)?;
     }
-    Ok(so_far.term)
-}
-
-// The sum of two parts.
-fn start_of(walk: &Walk<'_>, a: SumPart, b: SumPart) -> Result<SoFar, NoMemory>
-    ensures { IfOk result (λ s. (term_tree s.term ≡
-        first_two_of walk.now.table.now (plus_passes a.range b.range || (walk.now.table.now.is_typed && (a.is_small && b.is_small)))
-        (option_map term_tree a.less) (term_tree a.term) (option_map term_tree b.less) (term_tree b.term)) ×
-        (s.range ≡ plus a.range b.range)) }
-{
-    let table = walk.table;
-    let passes = a.range.plus_passes(b.range) || (table.is_typed && (a.is_small && b.is_small));
-    let range = a.range.plus(b.range);
-    let term = first_two(walk, passes, a, b)?;
-    Ok(SoFar { term, range })
-}
-
-// A sum and one part more.
-fn sum_with(walk: &Walk<'_>, so_far: SoFar, next: SumPart) -> Result<SoFar, NoMemory>
-    ensures { IfOk result (λ s. (term_tree s.term ≡
-        one_more_of walk.now.table.now (plus_passes so_far.range next.range) (term_tree so_far.term) (option_map term_tree next.less) (term_tree next.term)) ×
-        (s.range ≡ plus so_far.range next.range)) }
-{
-    let passes = so_far.range.plus_passes(next.range);
-    let range = so_far.range.plus(next.range);
-    let term = one_more(walk, passes, so_far.term, next.less, next.term)?;
-    Ok(SoFar { term, range })
+    Ok(so_far)
 }
 
 // The terms of codes.

@@ -1,6 +1,6 @@
 //! Whole files.
 ghost use Rattle.std.specs.Prelude.{◌≡◌, ◌++◌, IfOk};
-ghost use Rattle.cf_print.specs.Files.{before_head as head_before, behind_head as head_behind, c_file, c_includes as includes_of, c_body as c_body_of, file_of as file_for, filter_of as filter_for, head_of as head_for, prototype as prototype_of, python_file, when as text_when};
+ghost use Rattle.cf_print.specs.Files.{before_head as head_before, behind_head as head_behind, c_file, c_includes as includes_of, c_body as c_body_of, file_of as file_for, filter_of as filter_for, head_of as head_for, js_file, prototype as prototype_of, python_file, when as text_when};
 
 use crate::called::{Called, called_head};
 use crate::comment::put_source;
@@ -130,6 +130,16 @@ fn c_file_of(
     Ok(Text { bytes: all })
 }
 
+// The file of JavaScript behind whose head this stands.
+fn js_file_of(alloc: Global, source: &[u8], text: Vec<u8>) -> Result<Text, NoMemory>
+    ensures { IfOk result (λ t. t ≡ js_file source.now text.items) }
+{
+    let body = with_helpers(alloc, helpers::JAVASCRIPT, text)?;
+    let mut all = head_of(alloc, Language::JavaScript, source)?;
+    all.extend_from_slice(&body)?;
+    Ok(Text { bytes: all })
+}
+
 // The functions, and what makes the file a filter.
 fn with_filter(
     alloc: Global,
@@ -169,7 +179,11 @@ pub(crate) fn file_of(
             let text = with_filter(alloc, Language::C, has_main, function, functions)?;
             c_file_of(alloc, has_main, source, function, text)
         }
-        Language::JavaScript | Language::Rust => Ok(Text {
+        Language::JavaScript => {
+            let text = with_filter(alloc, Language::JavaScript, has_main, function, functions)?;
+            js_file_of(alloc, source, text)
+        }
+        Language::Rust => Ok(Text {
             bytes: Vec::new(alloc),
         }),
     }

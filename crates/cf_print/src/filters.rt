@@ -1,12 +1,13 @@
 //! What makes a file a filter of lines.
 ghost use Rattle.std.specs.Prelude.{◌≡◌, ◌++◌, ◌∷◌, [], codes, decimal, drop, suc, map, IfOk, OnOk};
 ghost use Rattle.std.specs.List.{list_any};
-ghost use Rattle.cf_print.specs.Files.{c_call as call_of, c_declared as declared_all, c_declared_one as declared_one, c_filter, c_gap as gap_of, c_read_one as read_one, c_reader as reader_of, c_readers as readers_of, c_reads as reads_all, c_space as space_of, c_writes as writes_all, c_written as written_one, filter_of as filter_for, is_number as is_number_base, is_truth as is_truth_base, numbers_a_value as numbers_value, python_filter, python_line as line_of, python_pattern as pattern_of, python_reply as reply_of, reply_name as name_in_reply, reply_names as names_in_reply};
+ghost use Rattle.cf_print.specs.Files.{c_call as call_of, c_declared as declared_all, c_declared_one as declared_one, c_filter, c_gap as gap_of, c_read_one as read_one, c_reader as reader_of, c_readers as readers_of, c_reads as reads_all, c_space as space_of, c_writes as writes_all, c_written as written_one, filter_of as filter_for, is_number as is_number_base, is_truth as is_truth_base, numbers_a_value as numbers_value, python_filter, js_filter, js_reply as js_reply_of, line_pattern as pattern_of, line_text as line_of, python_reply as reply_of, reply_name as name_in_reply, reply_names as names_in_reply};
 
 use crate::called::Called;
 use crate::count::next;
 use crate::emission::Language;
 use crate::giving::with_addresses;
+use crate::javascript;
 use crate::layout::base_text;
 use crate::names::is_numbered;
 use crate::pieces::{joined_text, put_pieces, text_of_pieces};
@@ -15,10 +16,8 @@ use crate::{c, python};
 use cf_tree::{Base, NoMemory, Text, put_number};
 use std::alloc::Global;
 
-// ---- Python
-
 // How a value stands in a line, as a pattern.
-fn python_pattern(base: Base) -> &'static [u8]
+fn pattern_of_base(base: Base) -> &'static [u8]
     ensures { result.now ≡ pattern_of base }
 {
     match base {
@@ -28,20 +27,20 @@ fn python_pattern(base: Base) -> &'static [u8]
     }
 }
 
-fn python_patterns(alloc: Global, bases: &[Base]) -> Result<Vec<Text>, NoMemory>
+fn patterns(alloc: Global, bases: &[Base]) -> Result<Vec<Text>, NoMemory>
     ensures { IfOk result (λ all. all.items ≡ map pattern_of bases.now) }
 {
     let mut all = Vec::new(alloc);
     for base in bases {
         all.push(Text {
-            bytes: Vec::from_slice(alloc, python_pattern(*base))?,
+            bytes: Vec::from_slice(alloc, pattern_of_base(*base))?,
         })?;
     }
     Ok(all)
 }
 
 // The pattern of a line.
-fn python_line(alloc: Global, bases: &[Base]) -> Result<Text, NoMemory>
+fn line_text(alloc: Global, bases: &[Base]) -> Result<Text, NoMemory>
     ensures { IfOk result (λ t. t ≡ line_of bases.now) }
 {
     if bases.len() == 0 {
@@ -49,8 +48,8 @@ fn python_line(alloc: Global, bases: &[Base]) -> Result<Text, NoMemory>
             bytes: Vec::from_slice(alloc, b"[ \\t]*")?,
         });
     }
-    let patterns = python_patterns(alloc, bases)?;
-    let all = joined_text(alloc, b"[ \\t]+", &patterns)?;
+    let all = patterns(alloc, bases)?;
+    let all = joined_text(alloc, b"[ \\t]+", &all)?;
     text_of_pieces(
         alloc,
         &[
@@ -74,7 +73,7 @@ fn python_reply(bases: &[Base]) -> &'static [u8]
 fn python_filter_of(alloc: Global, function: &Called) -> Result<Text, NoMemory>
     ensures { IfOk result (λ t. t ≡ python_filter function.now) }
 {
-    let line = python_line(alloc, &function.bases)?;
+    let line = line_text(alloc, &function.bases)?;
     text_of_pieces(
         alloc,
         &[
@@ -369,6 +368,42 @@ fn c_filter_of(alloc: Global, function: &Called) -> Result<Text, NoMemory>
     )
 }
 
+// ---- JavaScript
+
+// The reply to the values of a line.
+fn js_reply(alloc: Global, name: &[u8], bases: &[Base]) -> Result<Text, NoMemory>
+    ensures { IfOk result (λ t. t ≡ js_reply_of name.now bases.now) }
+{
+    if bases.len() == 1 {
+        text_of_pieces(
+            alloc,
+            &[b"written(".as_slice(), name, b"(...values))".as_slice()],
+        )
+    } else {
+        text_of_pieces(
+            alloc,
+            &[name, b"(...values).map(written).join(\" \")".as_slice()],
+        )
+    }
+}
+
+fn js_filter_of(alloc: Global, function: &Called) -> Result<Text, NoMemory>
+    ensures { IfOk result (λ t. t ≡ js_filter function.now) }
+{
+    let line = line_text(alloc, &function.bases)?;
+    let reply = js_reply(alloc, &function.name.bytes, &function.results)?;
+    text_of_pieces(
+        alloc,
+        &[
+            javascript::FILTER,
+            line.bytes.as_slice(),
+            javascript::REPLY,
+            reply.bytes.as_slice(),
+            javascript::FILTER_MAIN,
+        ],
+    )
+}
+
 /// What makes the file of a function one that answers lines.
 pub(crate) fn filter_of(
     alloc: Global,
@@ -380,7 +415,8 @@ pub(crate) fn filter_of(
     match language {
         Language::Python => python_filter_of(alloc, function),
         Language::C => c_filter_of(alloc, function),
-        Language::JavaScript | Language::Rust => Ok(Text {
+        Language::JavaScript => js_filter_of(alloc, function),
+        Language::Rust => Ok(Text {
             bytes: Vec::new(alloc),
         }),
     }

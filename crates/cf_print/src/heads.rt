@@ -1,6 +1,6 @@
 //! How functions begin and end.
 ghost use Rattle.std.specs.Prelude.{◌≡◌, ◌++◌, ◌∷◌, [], drop, IfOk, OnOk};
-ghost use Rattle.cf_print.specs.Heads.{about_part as about_the_part, all_base_texts as texts_of_bases, all_parameters as texts_of_all, head_text as text_of_head, head_with, opening_with as opening_by, parameter_text as text_of_parameter, parameter_texts as texts_of_parameters, part_closing as closing_of_part, part_opening as opening_of_part, pointer_text as text_of_pointer, pointer_texts as texts_of_pointers, results_text as text_of_results};
+ghost use Rattle.cf_print.specs.Heads.{about_part as about_the_part, all_base_texts as texts_of_bases, all_parameters as texts_of_all, head_text as text_of_head, head_with, opening_with as opening_by, parameter_text as text_of_parameter, parameter_texts as texts_of_parameters, part_closing as closing_of_part, part_opening as opening_of_part, pointer_text as text_of_pointer, pointer_texts as texts_of_pointers, results_text as text_of_results, results_with as tuple_of};
 
 use crate::emission::Language;
 use crate::layout::base_text;
@@ -97,31 +97,33 @@ fn all_base_texts(alloc: Global, language: Language, bases: &[Base]) -> Result<V
     Ok(all)
 }
 
-// What a function gives.
-fn results_text(alloc: Global, language: Language, bases: &[Base]) -> Result<Text, NoMemory>
+// Several results as a tuple.
+fn results_with(alloc: Global, language: Language, all: &[u8]) -> Result<Text, NoMemory>
+    ensures { IfOk result (λ t. t ≡ tuple_of language all.now) }
+{
+    match language {
+        Language::Python | Language::C => text_of_pieces(
+            alloc,
+            &[b"tuple[".as_slice(), all, b"]".as_slice()],
+        ),
+        Language::JavaScript => text_of_pieces(alloc, &[b"[".as_slice(), all, b"]".as_slice()]),
+        Language::Rust => text_of_pieces(alloc, &[b"(".as_slice(), all, b")".as_slice()]),
+    }
+}
+
+/// What a function gives.
+pub(crate) fn results_text(alloc: Global, language: Language, bases: &[Base]) -> Result<Text, NoMemory>
     ensures { IfOk result (λ t. t ≡ text_of_results language bases.now) }
 {
     match bases {
+        [] => results_with(alloc, language, &[]),
         [base] => Ok(Text {
             bytes: Vec::from_slice(alloc, base_text(language, *base))?,
         }),
-        _ => {
+        [_, _, ..] => {
             let texts = all_base_texts(alloc, language, bases)?;
             let inner = joined_text(alloc, b", ", &texts)?;
-            match language {
-                Language::Rust => text_of_pieces(
-                    alloc,
-                    &[b"(".as_slice(), inner.bytes.as_slice(), b")".as_slice()],
-                ),
-                Language::C | Language::Python | Language::JavaScript => text_of_pieces(
-                    alloc,
-                    &[
-                        b"tuple[".as_slice(),
-                        inner.bytes.as_slice(),
-                        b"]".as_slice(),
-                    ],
-                ),
-            }
+            results_with(alloc, language, &inner.bytes)
         }
     }
 }

@@ -2,6 +2,7 @@
 ghost use Rattle.std.specs.Prelude.{◌≡◌, ◌++◌, if◌then◌else◌, IfOk, drop, length};
 ghost use Rattle.cf_print.specs.Files.{with_helper as with_one_helper, with_helpers as with_all_helpers};
 
+use crate::javascript;
 use crate::names::holds;
 use crate::{c, python};
 use cf_tree::NoMemory;
@@ -29,6 +30,7 @@ pub const PYTHON: &[Helper] = &[
     helper!(b"-MAX <=", python::MAX),
     helper!(b"NoSolution", python::NONE),
     helper!(b"fit(", python::FIT),
+    helper!(b"total(", python::TOTAL),
     helper!(b"whole(", python::WHOLE),
     helper!(b"truth(", python::TRUTH),
     helper!(b"numbers(", python::NUMBERS),
@@ -39,6 +41,7 @@ pub const PYTHON: &[Helper] = &[
 /// Those of C.
 pub const C: &[Helper] = &[
     helper!(b"add(", c::ADD),
+    helper!(b"total(", c::TOTAL),
     helper!(b"sub(", c::SUB),
     helper!(b"mul(", c::MUL),
     helper!(b"div_down(", c::DIV_DOWN),
@@ -49,6 +52,32 @@ pub const C: &[Helper] = &[
 
 /// Those of C that stand before its status.
 pub const C_DEFINITIONS: &[Helper] = &[helper!(b"from_halves(", c::HALVES)];
+
+/// Those of JavaScript.
+pub const JAVASCRIPT: &[Helper] = &[
+    helper!(b"MAX", javascript::MAX),
+    helper!(b"NoSolution", javascript::NONE),
+    helper!(b"Overflow", javascript::OVERFLOW),
+    helper!(b"fit(", javascript::FIT),
+    helper!(b"total(", javascript::TOTAL),
+    helper!(b"whole(", javascript::WHOLE),
+    helper!(b"truth(", javascript::TRUTH),
+    helper!(b"rising(", javascript::RISING),
+    helper!(b"numbers(", javascript::NUMBERS),
+    helper!(b"set_of(", javascript::SET_OF),
+    helper!(b"div(", javascript::DIV),
+    helper!(b"mod(", javascript::MOD),
+    helper!(b"least(", javascript::LEAST),
+    helper!(b"greatest(", javascript::GREATEST),
+    helper!(b"union(", javascript::UNION),
+    helper!(b"inter(", javascript::INTER),
+    helper!(b"diff(", javascript::DIFF),
+    helper!(b"subset(", javascript::SUBSET),
+    helper!(b"same(", javascript::SAME),
+    helper!(b"card(", javascript::CARD),
+    helper!(b"cut(", javascript::SLICE),
+    helper!(b"fresh(", javascript::FRESH),
+];
 
 // One helper more before a text that calls it.
 fn with_helper(alloc: Global, helper: &Helper, text: Vec<u8>) -> Result<Vec<u8>, NoMemory>

@@ -16,6 +16,7 @@ mod function;
 mod giving;
 mod heads;
 mod helpers;
+mod javascript;
 mod laws;
 mod layout;
 mod lines;

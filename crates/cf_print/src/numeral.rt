@@ -59,6 +59,11 @@ fn put_numeral(out: &mut Vec<u8>, numerals: Numerals, number: u128) -> Result<()
 {
     match numerals {
         Numerals::Plain => put_count(out, number),
+        Numerals::Big => {
+            put_count(out, number)?;
+            out.extend_from_slice(b"n")?;
+            Ok(())
+        }
         Numerals::Halved => {
             if number < INT_END {
                 put_count(out, number)

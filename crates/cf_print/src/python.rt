@@ -31,6 +31,17 @@ def fit(number: int) -> int:
     return number
 ";
 
+/// The sum of three numbers or more.
+pub const TOTAL: &[u8] = b"
+
+def total(*parts: int) -> int:
+    \"\"\"The sum of the parts, where it is at most MAX in absolute value on its way from left to right.\"\"\"
+    number = 0
+    for part in parts:
+        number = fit(number + part)
+    return number
+";
+
 /// The check of an argument that is a number.
 pub const WHOLE: &[u8] = b"
 

@@ -3,8 +3,8 @@ ghost use Rattle.std.specs.Prelude.{◌≡◌};
 ghost use Rattle.cf_print.specs.Rows.{table_of as table, words_of as words};
 
 use crate::emission::Language;
-use crate::table::{C, PYTHON, Table};
-use crate::words::{C_WORDS, PYTHON_WORDS};
+use crate::table::{C, JAVASCRIPT, PYTHON, Table};
+use crate::words::{C_WORDS, JAVASCRIPT_WORDS, PYTHON_WORDS};
 
 /// The expressions of a language.
 pub fn table_of(language: Language) -> Table
@@ -12,7 +12,8 @@ pub fn table_of(language: Language) -> Table
 {
     match language {
         Language::C => C,
-        _ => PYTHON,
+        Language::Python => PYTHON,
+        Language::JavaScript => JAVASCRIPT,
     }
 }
 
@@ -22,6 +23,7 @@ pub fn words_of(language: Language) -> &'static [u8]
 {
     match language {
         Language::C => C_WORDS,
-        _ => PYTHON_WORDS,
+        Language::Python => PYTHON_WORDS,
+        Language::JavaScript => JAVASCRIPT_WORDS,
     }
 }

@@ -90,6 +90,8 @@ pub enum Numerals {
     Plain,
     /// As C types them: `int`, then `long long`, then two halves.
     Halved,
+    /// Digits and an `n`.
+    Big,
 }
 
 /// The expressions of a language.
@@ -106,6 +108,8 @@ pub struct Table {
     pub or: Sign,
     pub orders: Orders,
     pub sum: Checked,
+    /// A sum of three parts or more that may pass the limit on its way.
+    pub total: Call,
     pub difference: Checked,
     pub product: Checked,
     pub quotient: Divided,
@@ -215,6 +219,7 @@ pub const PYTHON: Table = Table {
         ge: alone!(Mark::AtLeast, COMPARE),
     },
     sum: fitted!(chain!(Mark::Plus, ADD)),
+    total: call!(Mark::Total),
     difference: fitted!(chain!(Mark::Minus, ADD)),
     product: fitted!(chain!(Mark::Star, MULTIPLY)),
     quotient: Divided {
@@ -283,6 +288,10 @@ pub const C: Table = Table {
         ge: alone!(Mark::AtLeast, COMPARE),
     },
     sum: flagged!(chain!(Mark::Plus, ADD), Mark::Add),
+    total: Call {
+        opening: Mark::TotalOf,
+        closing: Mark::EndOfTotal,
+    },
     difference: flagged!(chain!(Mark::Minus, ADD), Mark::Sub),
     product: flagged!(chain!(Mark::Star, MULTIPLY), Mark::Mul),
     quotient: Divided {
@@ -313,5 +322,58 @@ pub const C: Table = Table {
         card: no_set!(),
         slice: no_set!(),
         fresh: no_set!(),
+    },
+};
+
+/// JavaScript.
+pub const JAVASCRIPT: Table = Table {
+    numerals: Numerals::Big,
+    is_typed: false,
+    yes: Mark::SmallTrue,
+    no: Mark::SmallFalse,
+    minus: alone!(Mark::Dash, UNARY),
+    not: alone!(Mark::Bang, UNARY),
+    and: chain!(Mark::TwoAmpersands, AND),
+    or: chain!(Mark::TwoBars, OR),
+    orders: Orders {
+        eq: alone!(Mark::SameAs, COMPARE),
+        ne: alone!(Mark::OtherThan, COMPARE),
+        lt: alone!(Mark::Less, COMPARE),
+        le: alone!(Mark::AtMost, COMPARE),
+        gt: alone!(Mark::Greater, COMPARE),
+        ge: alone!(Mark::AtLeast, COMPARE),
+    },
+    sum: fitted!(chain!(Mark::Plus, ADD)),
+    total: call!(Mark::Total),
+    difference: fitted!(chain!(Mark::Minus, ADD)),
+    product: fitted!(chain!(Mark::Star, MULTIPLY)),
+    quotient: Divided {
+        down: Form::Called(call!(Mark::Div)),
+        natural: Form::Signed(chain!(Mark::Slash, MULTIPLY)),
+    },
+    remainder: Divided {
+        down: Form::Called(call!(Mark::Mod)),
+        natural: Form::Signed(chain!(Mark::Percent, MULTIPLY)),
+    },
+    rest: chain!(Mark::Percent, MULTIPLY),
+    least: Form::Called(call!(Mark::Least)),
+    greatest: Form::Called(call!(Mark::Greatest)),
+    choice: Choice {
+        test_first: true,
+        first: Mark::Question,
+        second: Mark::Colon,
+    },
+    sets: SetForms {
+        empty: Mark::NewSet,
+        of: call!(Mark::SetOfAll),
+        union: Form::Called(call!(Mark::Union)),
+        inter: Form::Called(call!(Mark::Inter)),
+        diff: Form::Called(call!(Mark::Diff)),
+        subset: Form::Called(call!(Mark::Subset)),
+        same: Form::Called(call!(Mark::Same)),
+        other: Form::Called(call!(Mark::Other)),
+        card: call!(Mark::Card),
+        slice: call!(Mark::Cut),
+        fresh: call!(Mark::Fresh),
     },
 };

@@ -7,8 +7,8 @@ use Rattle.cf_print.proofs.expression.+term_of.Given as goal
 
 abbrev pub invariant-sum_behind-loop-i : goal.invariant-sum_behind-loop-i
 invariant-sum_behind-loop-i l =
-    sum_behind l.walk.table.now l.walk.scope.now l.so_far.range (term_tree l.so_far.term) (code_trees (drop l.i l.parts)) ≡
-    sum_behind l.walk.table.now l.walk.scope.now l.fn.start.range (term_tree l.fn.start.term) (code_trees (drop 2 l.parts))
+    sum_behind l.walk.table.now l.walk.scope.now (term_tree l.so_far) (code_trees (drop l.i l.parts)) ≡
+    sum_behind l.walk.table.now l.walk.scope.now (term_tree l.fn.start) (code_trees (drop 2 l.parts))
 
 abbrev pub invariant-over_more-loop-i : goal.invariant-over_more-loop-i
 invariant-over_more-loop-i l =
