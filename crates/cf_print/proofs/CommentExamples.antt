@@ -2,7 +2,7 @@
 use Rattle.std.specs.Prelude.{ℕ, ◌≡◌, List, [], ◌∷◌, ◌++◌, Option, None, codes, refl}
 use Rattle.cf_print.specs.Files.{source_lines, head_of}
 use Rattle.cf_print.specs.declared.emission.Language.{Language}
-use Rattle.cf_print.specs.declared.emission.Language.TheVariants.{C, Python, JavaScript, Rust}
+use Rattle.cf_print.specs.declared.emission.Language.TheVariants.{C, Python, JavaScript}
 
 abbrev lines : Language → List ℕ → List ℕ
 lines l source = source_lines l None source
@@ -17,12 +17,8 @@ python_lines = refl
 js_lines : lines JavaScript (codes "ab\n\nc") ≡ codes "//     ab\n//\n//     c\n"
 js_lines = refl
 
--- no line begins a comment for documents, whose deeper lines are taken as tests
-rust_lines : lines Rust (codes "ab\n\nc") ≡ codes "//     ab\n//\n//     c\n"
-rust_lines = refl
-
-rust_head : head_of Rust (codes "ab\n") ≡ codes "// Written by Comfusy from this source; each change belongs there.\n//\n//     ab\n"
-rust_head = refl
+js_head : head_of JavaScript (codes "ab\n") ≡ codes "// Written by Comfusy from this source; each change belongs there.\n//\n//     ab\n"
+js_head = refl
 
 -- ---- bytes that are shown otherwise
 tab : lines Python (codes "a\tb") ≡ codes "    a b\n"

@@ -16,7 +16,7 @@ use Rattle.cf_print.specs.Printed.{Printing, Names, unread_in, are_statuses, lac
 use Rattle.cf_print.specs.declared.exit.Exit.TheVariants.{Falls}
 use Rattle.cf_print.specs.declared.place.Giving.TheVariants.{Results}
 use Rattle.cf_print.specs.declared.emission.Language.{Language}
-use Rattle.cf_print.specs.declared.emission.Language.TheVariants.{C, Python, JavaScript, Rust}
+use Rattle.cf_print.specs.declared.emission.Language.TheVariants.{C, Python, JavaScript}
 
 -- ---- names
 abbrev name_in_python : List (List ℕ) → Option (List ℕ) → List ℕ
@@ -166,5 +166,5 @@ set_within = refl
 no_set : lacks_sets (printing C (Int ∷ []) (Int ∷ []) (give (code_var 0))) ≡ false
 no_set = refl
 
-set_in_rust : lacks_sets (printing Rust (Set ∷ []) [] (none 1)) ≡ false
-set_in_rust = refl
+set_in_javascript : lacks_sets (printing JavaScript (Set ∷ []) [] (none 1)) ≡ false
+set_in_javascript = refl

@@ -9,7 +9,7 @@ use Rattle.cf_print.specs.Pieces.{joined}
 use Rattle.cf_print.specs.Layout.{base_text, unread_lines, addresses}
 use Rattle.cf_print.specs.Heads.{all_parameters, head_text, parameter_text, results_text}
 use Rattle.cf_print.specs.declared.emission.Language.{Language}
-use Rattle.cf_print.specs.declared.emission.Language.TheVariants.{C, Python, JavaScript, Rust}
+use Rattle.cf_print.specs.declared.emission.Language.TheVariants.{C, Python, JavaScript}
 use Rattle.cf_print.specs.declared.helpers.Helper.{Helper}
 use Rattle.cf_print.specs.declared.helpers.TheConstants.{PYTHON, C as C_HELPERS, C_DEFINITIONS, JAVASCRIPT}
 use Rattle.cf_print.specs.declared.javascript.TheConstants.{FILTER as JS_FILTER, REPLY as JS_REPLY, FILTER_MAIN as JS_FILTER_MAIN}
@@ -53,7 +53,6 @@ abbrev pub shown_behind : Language → ℕ → ℕ → List ℕ
 shown_behind Python last x = if nat_eq x 34 || nat_eq x 92 then 92 ∷ x ∷ [] else x ∷ []
 shown_behind C last x = if is_kept_apart last x then 32 ∷ x ∷ [] else x ∷ []
 shown_behind JavaScript last x = x ∷ []
-shown_behind Rust last x = x ∷ []
 
 -- before a line of the source, and in place of one that is empty
 abbrev pub before_source : Language → List ℕ
@@ -104,13 +103,11 @@ abbrev pub before_head : Language → List ℕ
 before_head Python = codes "\"\"\"" ++ title ++ codes "\n"
 before_head C = codes "/*\n * " ++ title ++ codes " *\n"
 before_head JavaScript = codes "// " ++ title ++ codes "//\n"
-before_head Rust = codes "// " ++ title ++ codes "//\n"
 
 abbrev pub behind_head : Language → List ℕ
 behind_head Python = codes "\"\"\"\n\nfrom __future__ import annotations\n"
 behind_head C = codes " */\n\n"
 behind_head JavaScript = []
-behind_head Rust = []
 
 abbrev pub head_of : Language → List ℕ → List ℕ
 head_of l source = before_head l ++ source_lines l None source ++ behind_head l
@@ -198,7 +195,6 @@ abbrev pub called_head : Language → Called → List ℕ
 called_head Python f = head_text Python f.name (called_parameters f.params f.bases) f.results
 called_head C f = head_text C f.name (all_parameters C f.params f.bases f.pointers f.results) f.results
 called_head JavaScript f = codes "export " ++ head_text JavaScript f.name (all_parameters JavaScript f.params f.bases f.pointers f.results) f.results
-called_head Rust f = []
 
 -- a line for each variable of C that no statement reads
 abbrev pub all_unread : List (List ℕ) → List ℕ
@@ -251,13 +247,11 @@ abbrev pub opening_of : Language → Bool → Called → List ℕ
 opening_of Python is_filter f = python_opening f
 opening_of C is_filter f = c_opening is_filter f
 opening_of JavaScript is_filter f = js_opening f
-opening_of Rust is_filter f = []
 
 abbrev pub end_of : Language → List ℕ
 end_of Python = []
 end_of C = codes "}\n"
 end_of JavaScript = codes "}\n"
-end_of Rust = codes "}\n"
 
 -- ---- files
 
@@ -361,7 +355,6 @@ abbrev pub filter_of : Language → Called → List ℕ
 filter_of Python f = python_filter f
 filter_of C f = c_filter f
 filter_of JavaScript f = js_filter f
-filter_of Rust f = []
 
 -- the file of a function, whose text this is with that of those before it
 abbrev pub python_file : Bool → List ℕ → List ℕ → List ℕ
@@ -384,4 +377,3 @@ abbrev pub file_of : Language → Bool → List ℕ → Called → List ℕ → 
 file_of Python has_main source f functions = python_file has_main source (functions ++ when has_main (filter_of Python f))
 file_of C has_main source f functions = c_file has_main source f (functions ++ when has_main (filter_of C f))
 file_of JavaScript has_main source f functions = js_file source (functions ++ when has_main (filter_of JavaScript f))
-file_of Rust has_main source f functions = []

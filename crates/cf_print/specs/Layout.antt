@@ -5,14 +5,13 @@ use Rattle.cf_tree.specs.declared.base.Base.{Base}
 use Rattle.cf_tree.specs.declared.base.Base.TheVariants.{Int, Bool as Truth, Set}
 use Rattle.cf_print.specs.Pieces.{repeated, joined}
 use Rattle.cf_print.specs.declared.emission.Language.{Language}
-use Rattle.cf_print.specs.declared.emission.Language.TheVariants.{C, Python, JavaScript, Rust}
+use Rattle.cf_print.specs.declared.emission.Language.TheVariants.{C, Python, JavaScript}
 
 -- what stands before a line in a block
 abbrev pub step_of : Language → List ℕ
 step_of JavaScript = codes "  "
 step_of C = codes "    "
 step_of Python = codes "    "
-step_of Rust = codes "    "
 
 abbrev pub indented : Language → ℕ → List ℕ
 indented l d = repeated d (step_of l)
@@ -27,9 +26,6 @@ base_text C b = codes "whole"
 base_text Python Int = codes "int"
 base_text Python Truth = codes "bool"
 base_text Python Set = codes "frozenset[int]"
-base_text Rust Int = codes "i128"
-base_text Rust Truth = codes "bool"
-base_text Rust Set = codes "BTreeSet<i128>"
 base_text JavaScript Int = codes "bigint"
 base_text JavaScript Truth = codes "boolean"
 base_text JavaScript Set = codes "Set<bigint>"
@@ -39,12 +35,10 @@ abbrev pub let_text : Language → Base → List ℕ → List ℕ → List ℕ
 let_text C base x e = concat (base_text C base ∷ codes " " ∷ x ∷ codes " = " ∷ e ∷ codes ";" ∷ [])
 let_text Python base x e = concat (x ∷ codes " = " ∷ e ∷ [])
 let_text JavaScript base x e = concat (codes "const " ∷ x ∷ codes " = " ∷ e ∷ codes ";" ∷ [])
-let_text Rust base x e = concat (codes "let " ∷ x ∷ codes ": " ∷ base_text Rust base ∷ codes " = " ∷ e ∷ codes ";" ∷ [])
 
 -- a variable that no statement reads is named once more, so that compilers do not warn of it
 abbrev pub unread_lines : Language → ℕ → List ℕ → List ℕ
 unread_lines C d x = line C d (concat (codes "(void)" ∷ x ∷ codes ";" ∷ []))
-unread_lines Rust d x = line Rust d (concat (codes "let _ = " ∷ x ∷ codes ";" ∷ []))
 unread_lines Python d x = []
 unread_lines JavaScript d x = []
 
@@ -63,7 +57,6 @@ abbrev pub none_text : Language → ℕ → List ℕ
 none_text C n = concat (codes "return past ? COMFUSY_OVERFLOW : " ∷ decimal n ∷ codes ";" ∷ [])
 none_text Python n = concat (codes "raise NoSolution(" ∷ decimal n ∷ codes ")" ∷ [])
 none_text JavaScript n = concat (codes "throw new NoSolution(" ∷ decimal n ∷ codes ");" ∷ [])
-none_text Rust n = concat (codes "return Err(ComfusyError::NoSolution(" ∷ decimal n ∷ codes "));" ∷ [])
 
 -- the next round of a search
 abbrev pub next_text : Language → List ℕ
@@ -78,7 +71,6 @@ fall_lines l d = []
 -- what follows stands deeper, where a condition holds
 abbrev pub if_text : Language → List ℕ → List ℕ
 if_text Python e = concat (codes "if " ∷ e ∷ codes ":" ∷ [])
-if_text Rust e = concat (codes "if " ∷ e ∷ codes " {" ∷ [])
 if_text l e = concat (codes "if (" ∷ e ∷ codes ") {" ∷ [])
 
 -- the same before one statement that leaves
@@ -109,7 +101,6 @@ abbrev pub search_text : Language → List ℕ → ℕ → List ℕ
 search_text C i k = concat (codes "for (whole " ∷ i ∷ codes " = 0; " ∷ i ∷ codes " < " ∷ decimal k ∷ codes "; " ∷ i ∷ codes "++) {" ∷ [])
 search_text Python i k = concat (codes "for " ∷ i ∷ codes " in range(" ∷ decimal k ∷ codes "):" ∷ [])
 search_text JavaScript i k = concat (codes "for (let " ∷ i ∷ codes " = 0n; " ∷ i ∷ codes " < " ∷ decimal k ∷ codes "n; " ∷ i ∷ codes "++) {" ∷ [])
-search_text Rust i k = concat (codes "for " ∷ i ∷ codes " in 0.." ∷ decimal k ∷ codes "_i128 {" ∷ [])
 
 -- the values that a function gives; in C through pointers of these names
 abbrev pub through_text : List ℕ → List ℕ → List ℕ
@@ -127,14 +118,12 @@ bracketed opening closing xs = concat (opening ∷ joined (codes ", ") xs ∷ cl
 -- several values as they stand behind `return` or before an equality sign
 abbrev pub all_text : Language → List (List ℕ) → List ℕ
 all_text JavaScript xs = bracketed (codes "[") (codes "]") xs
-all_text Rust xs = bracketed (codes "(") (codes ")") xs
 all_text l xs = joined (codes ", ") xs
 
 abbrev pub return_text : Language → List ℕ → List ℕ
 return_text C all = codes "return past ? COMFUSY_OVERFLOW : 0;"
 return_text Python all = concat (codes "return " ∷ all ∷ [])
 return_text JavaScript all = concat (codes "return " ∷ all ∷ codes ";" ∷ [])
-return_text Rust all = concat (codes "return Ok(" ∷ all ∷ codes ");" ∷ [])
 
 abbrev pub give_lines : Language → ℕ → List (List ℕ) → List (List ℕ) → List ℕ
 give_lines C d pointers es = through d pointers es ++ line C d (return_text C [])
@@ -165,7 +154,6 @@ abbrev pub result_text : Language → List ℕ → List ℕ → List ℕ → Lis
 result_text C xs f args = []
 result_text Python xs f args = concat (xs ∷ codes " = " ∷ f ∷ codes "(" ∷ args ∷ codes ")" ∷ [])
 result_text JavaScript xs f args = concat (codes "const " ∷ xs ∷ codes " = " ∷ f ∷ codes "(" ∷ args ∷ codes ");" ∷ [])
-result_text Rust xs f args = concat (codes "let " ∷ xs ∷ codes " = " ∷ f ∷ codes "(" ∷ args ∷ codes ")?;" ∷ [])
 
 -- in C its status has a name
 abbrev pub call_lines : Language → ℕ → List ℕ → List Base → List (List ℕ) → List ℕ → List (List ℕ) → List ℕ

@@ -1,7 +1,7 @@
 -- The rows of the languages: how each writes expressions, and the words that no variable may have for its name.
 use Rattle.std.specs.Prelude.{ℕ, List}
 use Rattle.cf_print.specs.declared.emission.Language.{Language}
-use Rattle.cf_print.specs.declared.emission.Language.TheVariants.{C, Python, JavaScript, Rust}
+use Rattle.cf_print.specs.declared.emission.Language.TheVariants.{C, Python, JavaScript}
 use Rattle.cf_print.specs.declared.table.Table.{Table}
 use Rattle.cf_print.specs.declared.table.TheConstants.{PYTHON, C as C_TABLE, JAVASCRIPT}
 use Rattle.cf_print.specs.declared.words.TheConstants.{PYTHON_WORDS, C_WORDS, JAVASCRIPT_WORDS}

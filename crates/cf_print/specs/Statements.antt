@@ -12,7 +12,7 @@ use Rattle.cf_print.specs.Places.{Setting, table, words, deeper, leaving_by, beh
 use Rattle.cf_print.specs.Shapes.{number_of, is_none, is_leave, exit_of, gives, is_straight, can_fall, is_plain, block_reads, those_read, results_of}
 use Rattle.cf_print.specs.Wishes.{given_at}
 use Rattle.cf_print.specs.declared.emission.Language.{Language}
-use Rattle.cf_print.specs.declared.emission.Language.TheVariants.{C, Python, JavaScript, Rust}
+use Rattle.cf_print.specs.declared.emission.Language.TheVariants.{C, Python, JavaScript}
 use Rattle.cf_print.specs.declared.exit.Exit.{Exit}
 use Rattle.cf_print.specs.declared.exit.Exit.TheVariants.{Falls, GoesOn, Ends}
 use Rattle.cf_print.specs.declared.place.Place.{Place}
@@ -108,7 +108,6 @@ abbrev pub has_pointers : Language → Bool
 has_pointers C = true
 has_pointers Python = false
 has_pointers JavaScript = false
-has_pointers Rust = false
 
 abbrev pub pointers_for : Setting → List (List ℕ) → List Base → List (List ℕ) → List (List ℕ)
 pointers_for s asked bs taken = if has_pointers s.language then names_for s Pointer asked 0 bs taken else []
@@ -239,7 +238,6 @@ abbrev pub arm_place : Language → Place → Place
 arm_place Python p = leaving_by Falls p
 arm_place C p = deeper (leaving_by Falls p)
 arm_place JavaScript p = deeper (leaving_by Falls p)
-arm_place Rust p = deeper (leaving_by Falls p)
 
 -- an arm without searches: the last one has guards
 unfoldable pub plain_arm : Setting → Place → Option ℕ → (Place → Draft → Draft) → (Place → Draft → Draft) → Draft → Draft

@@ -334,12 +334,15 @@ pub(crate) fn called_head(
                 &function.pointers,
                 &function.results,
             )?;
-            let head = head_text(alloc, language, &function.name.bytes, &params, &function.results)?;
+            let head = head_text(
+                alloc,
+                language,
+                &function.name.bytes,
+                &params,
+                &function.results,
+            )?;
             text_of_pieces(alloc, &[b"export ".as_slice(), head.bytes.as_slice()])
         }
-        Language::Rust => Ok(Text {
-            bytes: Vec::new(alloc),
-        }),
     }
 }
 
@@ -526,9 +529,6 @@ pub(crate) fn opening_of(
         Language::Python => python_opening_of(alloc, function),
         Language::C => c_opening_of(alloc, is_filter, function),
         Language::JavaScript => js_opening_of(alloc, function),
-        Language::Rust => Ok(Text {
-            bytes: Vec::new(alloc),
-        }),
     }
 }
 
@@ -538,6 +538,6 @@ pub(crate) fn end_of(language: Language) -> &'static [u8]
 {
     match language {
         Language::Python => b"",
-        Language::C | Language::JavaScript | Language::Rust => b"}\n",
+        Language::C | Language::JavaScript => b"}\n",
     }
 }

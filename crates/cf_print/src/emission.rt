@@ -8,7 +8,6 @@ pub enum Language {
     C,
     Python,
     JavaScript,
-    Rust,
 }
 
 /// The names of the outputs of a choose.

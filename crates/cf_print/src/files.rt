@@ -22,7 +22,7 @@ fn before_head(language: Language) -> &'static [u8]
             b"\"\"\"Written by Comfusy from this source; each change belongs there.\n\n",
         Language::C =>
             b"/*\n * Written by Comfusy from this source; each change belongs there.\n *\n",
-        Language::JavaScript | Language::Rust =>
+        Language::JavaScript =>
             b"// Written by Comfusy from this source; each change belongs there.\n//\n",
     }
 }
@@ -33,7 +33,7 @@ fn behind_head(language: Language) -> &'static [u8]
     match language {
         Language::Python => b"\"\"\"\n\nfrom __future__ import annotations\n",
         Language::C => b" */\n\n",
-        Language::JavaScript | Language::Rust => b"",
+        Language::JavaScript => b"",
     }
 }
 
@@ -183,8 +183,5 @@ pub(crate) fn file_of(
             let text = with_filter(alloc, Language::JavaScript, has_main, function, functions)?;
             js_file_of(alloc, source, text)
         }
-        Language::Rust => Ok(Text {
-            bytes: Vec::new(alloc),
-        }),
     }
 }

@@ -7,12 +7,11 @@ use crate::called::Called;
 use crate::count::next;
 use crate::emission::Language;
 use crate::giving::with_addresses;
-use crate::javascript;
 use crate::layout::base_text;
 use crate::names::is_numbered;
 use crate::pieces::{joined_text, put_pieces, text_of_pieces};
 use crate::when::when;
-use crate::{c, python};
+use crate::{c, javascript, python};
 use cf_tree::{Base, NoMemory, Text, put_number};
 use std::alloc::Global;
 
@@ -416,8 +415,5 @@ pub(crate) fn filter_of(
         Language::Python => python_filter_of(alloc, function),
         Language::C => c_filter_of(alloc, function),
         Language::JavaScript => js_filter_of(alloc, function),
-        Language::Rust => Ok(Text {
-            bytes: Vec::new(alloc),
-        }),
     }
 }

@@ -81,7 +81,6 @@ fn all_text(alloc: Global, language: Language, texts: &[Text]) -> Result<Text, N
 {
     match language {
         Language::JavaScript => bracketed(alloc, b"[", b"]", texts),
-        Language::Rust => bracketed(alloc, b"(", b")", texts),
         Language::C | Language::Python => joined_text(alloc, b", ", texts),
     }
 }
@@ -109,12 +108,6 @@ fn put_return(
             depth,
             &[b"return ".as_slice(), all, b";".as_slice()],
         ),
-        Language::Rust => put_line(
-            out,
-            language,
-            depth,
-            &[b"return Ok(".as_slice(), all, b");".as_slice()],
-        ),
     }
 }
 
@@ -135,7 +128,7 @@ pub(crate) fn put_give(
             put_return(out, Language::C, depth, &[])?;
             Ok(())
         }
-        Language::Python | Language::JavaScript | Language::Rust => {
+        Language::Python | Language::JavaScript => {
             let all = all_text(alloc, language, values)?;
             put_return(out, language, depth, &all.bytes)
         }
@@ -278,20 +271,6 @@ fn put_result<'x>(
                 b");".as_slice(),
             ],
         ),
-        Language::Rust => put_line(
-            out,
-            language,
-            depth,
-            &[
-                b"let ".as_slice(),
-                names,
-                b" = ".as_slice(),
-                function,
-                b"(".as_slice(),
-                args,
-                b")?;".as_slice(),
-            ],
-        ),
     }
 }
 
@@ -348,7 +327,7 @@ pub(crate) fn put_call(
             put_status(out, depth, call.status, call.function, &args.bytes)?;
             Ok(())
         }
-        Language::Python | Language::JavaScript | Language::Rust => {
+        Language::Python | Language::JavaScript => {
             let args = joined_text(alloc, b", ", &args)?;
             let names = all_text(alloc, language, call.names)?;
             put_result(

@@ -19,7 +19,7 @@ pub(crate) fn parameter_text(
     ensures { IfOk result (λ t. t ≡ text_of_parameter language name.now base) }
 {
     match language {
-        Language::Python | Language::Rust => text_of_pieces(
+        Language::Python => text_of_pieces(
             alloc,
             &[name, b": ".as_slice(), base_text(language, base)],
         ),
@@ -107,7 +107,6 @@ fn results_with(alloc: Global, language: Language, all: &[u8]) -> Result<Text, N
             &[b"tuple[".as_slice(), all, b"]".as_slice()],
         ),
         Language::JavaScript => text_of_pieces(alloc, &[b"[".as_slice(), all, b"]".as_slice()]),
-        Language::Rust => text_of_pieces(alloc, &[b"(".as_slice(), all, b")".as_slice()]),
     }
 }
 
@@ -184,23 +183,7 @@ fn head_of<'x>(
                 params,
                 b") {\n".as_slice(),
             ],
-        ),
-        Language::Rust => text_of_pieces(
-            alloc,
-            &[
-                b"fn ".as_slice(),
-                name,
-                b"(".as_slice(),
-                params,
-                b") -> Result<".as_slice(),
-                results,
-                b", ComfusyError> {\n".as_slice(),
-            ],
-        ),
-    }
-}
-
-fn about_part(alloc: Global, number: u32) -> Result<Text, NoMemory>
+        ), number: u32) -> Result<Text, NoMemory>
     ensures { IfOk result (λ t. t ≡ about_the_part number) }
 {
     if number == 0 {
@@ -250,9 +233,9 @@ fn opening_with<'x>(
                 b"\n{\n    bool past = false;\n".as_slice(),
             ],
         ),
-        Language::JavaScript | Language::Rust => text_of_pieces(
+        Language::JavaScript => text_of_pieces(
             alloc,
-            &[b"// ".as_slice(), about, b"\n".as_slice(), head],
+            &[b"\n// ".as_slice(), about, b"\n".as_slice(), head],
         ),
     }
 }
@@ -287,7 +270,7 @@ pub(crate) fn all_parameters(
     let params = parameter_texts(alloc, language, names, bases)?;
     match language {
         Language::C => pointer_texts(alloc, params, pointers, results),
-        Language::Python | Language::JavaScript | Language::Rust => Ok(params),
+        Language::Python | Language::JavaScript => Ok(params),
     }
 }
 
@@ -297,6 +280,7 @@ pub(crate) fn part_closing(language: Language) -> &'static [u8]
 {
     match language {
         Language::Python => b"",
-        Language::C | Language::JavaScript | Language::Rust => b"}\n\n",
+        Language::C => b"}\n\n",
+        Language::JavaScript => b"}\n",
     }
 }

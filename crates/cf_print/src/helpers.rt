@@ -2,9 +2,8 @@
 ghost use Rattle.std.specs.Prelude.{◌≡◌, ◌++◌, if◌then◌else◌, IfOk, drop, length};
 ghost use Rattle.cf_print.specs.Files.{with_helper as with_one_helper, with_helpers as with_all_helpers};
 
-use crate::javascript;
 use crate::names::holds;
-use crate::{c, python};
+use crate::{c, javascript, python};
 use cf_tree::NoMemory;
 use std::alloc::Global;
 

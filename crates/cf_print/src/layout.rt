@@ -13,7 +13,7 @@ fn step_of(language: Language) -> &'static [u8]
 {
     match language {
         Language::JavaScript => b"  ",
-        Language::C | Language::Python | Language::Rust => b"    ",
+        Language::C | Language::Python => b"    ",
     }
 }
 
@@ -45,11 +45,6 @@ pub(crate) fn base_text(language: Language, base: Base) -> &'static [u8]
             Base::Int => b"int",
             Base::Bool => b"bool",
             Base::Set => b"frozenset[int]",
-        },
-        Language::Rust => match base {
-            Base::Int => b"i128",
-            Base::Bool => b"bool",
-            Base::Set => b"BTreeSet<i128>",
         },
         Language::JavaScript => match base {
             Base::Int => b"bigint",
@@ -97,20 +92,6 @@ pub(crate) fn put_let<'x>(
                 b";".as_slice(),
             ],
         ),
-        Language::Rust => put_line(
-            out,
-            language,
-            depth,
-            &[
-                b"let ".as_slice(),
-                name,
-                b": ".as_slice(),
-                base_text(language, base),
-                b" = ".as_slice(),
-                value,
-                b";".as_slice(),
-            ],
-        ),
     }
 }
 
@@ -125,7 +106,7 @@ pub(crate) fn put_comment(
 {
     match language {
         Language::Python => put_line(out, language, depth, &[b"# ".as_slice(), text]),
-        Language::C | Language::JavaScript | Language::Rust => put_line(
+        Language::C | Language::JavaScript => put_line(
             out,
             language,
             depth,
@@ -172,16 +153,6 @@ pub(crate) fn put_none(
                 b");".as_slice(),
             ],
         ),
-        Language::Rust => put_line(
-            out,
-            language,
-            depth,
-            &[
-                b"return Err(ComfusyError::NoSolution(".as_slice(),
-                digits,
-                b"));".as_slice(),
-            ],
-        ),
     }
 }
 
@@ -191,7 +162,7 @@ pub(crate) fn put_next(out: &mut Vec<u8>, language: Language, depth: usize) -> R
 {
     match language {
         Language::Python => put_line(out, language, depth, &[b"continue".as_slice()]),
-        Language::C | Language::JavaScript | Language::Rust => put_line(
+        Language::C | Language::JavaScript => put_line(
             out,
             language,
             depth,
@@ -206,7 +177,7 @@ pub(crate) fn put_fall(out: &mut Vec<u8>, language: Language, depth: usize) -> R
 {
     match language {
         Language::Python => put_line(out, language, depth, &[b"pass".as_slice()]),
-        Language::C | Language::JavaScript | Language::Rust => Ok(()),
+        Language::C | Language::JavaScript => Ok(()),
     }
 }
 
@@ -225,29 +196,7 @@ pub(crate) fn put_if(
             language,
             depth,
             &[b"if ".as_slice(), condition, b":".as_slice()],
-        ),
-        Language::Rust => put_line(
-            out,
-            language,
-            depth,
-            &[b"if ".as_slice(), condition, b" {".as_slice()],
-        ),
-        Language::C | Language::JavaScript => put_line(
-            out,
-            language,
-            depth,
-            &[b"if (".as_slice(), condition, b") {".as_slice()],
-        ),
-    }
-}
-
-/// Puts a condition before one statement that leaves.
-pub(crate) fn put_guard(
-    out: &mut Vec<u8>,
-    language: Language,
-    depth: usize,
-    condition: &[u8],
-) -> Result<(), NoMemory>
+        ), NoMemory>
     ensures { OnOk result (out.new.items ≡ out.old.items ++ line language depth (guard_text language condition.now)) }
 {
     match language {
@@ -257,7 +206,7 @@ pub(crate) fn put_guard(
             depth,
             &[b"if (".as_slice(), condition, b")".as_slice()],
         ),
-        Language::Python | Language::JavaScript | Language::Rust => put_if(
+        Language::Python | Language::JavaScript => put_if(
             out, language, depth, condition,
         ),
     }
@@ -269,7 +218,7 @@ pub(crate) fn put_end(out: &mut Vec<u8>, language: Language, depth: usize) -> Re
 {
     match language {
         Language::Python => Ok(()),
-        Language::C | Language::JavaScript | Language::Rust => put_line(
+        Language::C | Language::JavaScript => put_line(
             out,
             language,
             depth,
@@ -288,7 +237,7 @@ pub(crate) fn put_guard_end(
 {
     match language {
         Language::C => Ok(()),
-        Language::Python | Language::JavaScript | Language::Rust => put_end(out, language, depth),
+        Language::Python | Language::JavaScript => put_end(out, language, depth),
     }
 }
 
@@ -298,7 +247,7 @@ pub(crate) fn put_else(out: &mut Vec<u8>, language: Language, depth: usize) -> R
 {
     match language {
         Language::Python => put_line(out, language, depth, &[b"else:".as_slice()]),
-        Language::C | Language::JavaScript | Language::Rust => put_line(
+        Language::C | Language::JavaScript => put_line(
             out,
             language,
             depth,
@@ -313,7 +262,7 @@ pub(crate) fn put_scope(out: &mut Vec<u8>, language: Language, depth: usize) -> 
 {
     match language {
         Language::Python => Ok(()),
-        Language::C | Language::JavaScript | Language::Rust => put_line(
+        Language::C | Language::JavaScript => put_line(
             out,
             language,
             depth,
@@ -379,24 +328,6 @@ pub(crate) fn put_search(
                 b"++) {".as_slice(),
             ],
         ),
-        Language::Rust => put_line(
-            out,
-            language,
-            depth,
-            &[
-                b"for ".as_slice(),
-                name,
-                b" in 0..".as_slice(),
-                digits,
-                b"_i128 {".as_slice(),
-            ],
-        ),
-    }
-}
-
-/// Puts the name of a variable that no statement reads, so that compilers do not warn of it.
-pub(crate) fn put_unread(
-    out: &mut Vec<u8>,
     language: Language,
     depth: usize,
     name: &[u8],
@@ -409,12 +340,6 @@ pub(crate) fn put_unread(
             language,
             depth,
             &[b"(void)".as_slice(), name, b";".as_slice()],
-        ),
-        Language::Rust => put_line(
-            out,
-            language,
-            depth,
-            &[b"let _ = ".as_slice(), name, b";".as_slice()],
         ),
         Language::Python | Language::JavaScript => Ok(()),
     }

@@ -123,7 +123,7 @@ fn has_pointers(language: Language) -> bool
 {
     match language {
         Language::C => true,
-        Language::Python | Language::JavaScript | Language::Rust => false,
+        Language::Python | Language::JavaScript => false,
     }
 }
 

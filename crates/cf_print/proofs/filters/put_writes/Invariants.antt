@@ -3,5 +3,5 @@ use Rattle.cf_print.specs.Files.{c_writes}
 use Rattle.cf_print.proofs.filters.put_writes.Given as goal
 
 abbrev pub invariant-loop-base : goal.invariant-loop-base
-invariant-loop-base l = 
+invariant-loop-base l =
     l.out.items ++ c_writes l.is_first (drop l.base-index l.bases) l.left ≡ l.fn.out.items ++ c_writes true l.bases l.names

@@ -3,5 +3,5 @@ use Rattle.cf_print.specs.Heads.{all_base_texts}
 use Rattle.cf_print.proofs.heads.all_base_texts.Given as goal
 
 abbrev pub invariant-loop-base : goal.invariant-loop-base
-invariant-loop-base l = 
+invariant-loop-base l =
     l.all.items ++ all_base_texts l.language (drop l.base-index l.bases) ≡ all_base_texts l.language l.bases

@@ -3,5 +3,5 @@ use Rattle.cf_print.specs.Heads.{pointer_texts}
 use Rattle.cf_print.proofs.heads.pointer_texts.Given as goal
 
 abbrev pub invariant-loop-name : goal.invariant-loop-name
-invariant-loop-name l = 
+invariant-loop-name l =
     l.all.items ++ pointer_texts (drop l.name-index l.names) l.left ≡ l.fn.params.items ++ pointer_texts l.names l.bases

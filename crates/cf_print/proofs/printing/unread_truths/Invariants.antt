@@ -4,5 +4,5 @@ use Rattle.cf_print.specs.Printed.{unread_truths}
 use Rattle.cf_print.proofs.printing.unread_truths.Given as goal
 
 abbrev pub invariant-loop-name : goal.invariant-loop-name
-invariant-loop-name l = 
+invariant-loop-name l =
     l.all.items ++ unread_truths l.level (block_tree l.block) (drop l.name-index l.names) l.left ≡ unread_truths 0 (block_tree l.block) l.names l.bases

@@ -4,5 +4,5 @@ use Rattle.cf_print.specs.Shapes.{those_read}
 use Rattle.cf_print.proofs.results.bases_read.Given as goal
 
 abbrev pub invariant-loop-base : goal.invariant-loop-base
-invariant-loop-base l = 
+invariant-loop-base l =
     l.all.items ++ those_read l.level (block_tree l.block) (drop l.base-index l.bases) ≡ those_read 0 (block_tree l.block) l.bases

@@ -4,5 +4,5 @@ use Rattle.cf_print.specs.Statements.{loops_of}
 use Rattle.cf_print.proofs.searches.loops_of.Given as goal
 
 abbrev pub invariant-loop-j : goal.invariant-loop-j
-invariant-loop-j l = 
+invariant-loop-j l =
     loops_of (setting_in l.printer) l.j (drop l.j l.bounds) l.loops ≡ loops_of (setting_in l.printer) 0 l.bounds l.fn.outside

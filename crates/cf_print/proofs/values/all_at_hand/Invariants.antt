@@ -4,6 +4,6 @@ use Rattle.cf_print.specs.Places.{all_at_hand}
 use Rattle.cf_print.proofs.values.all_at_hand.Given as goal
 
 abbrev pub invariant-loop-code : goal.invariant-loop-code
-invariant-loop-code l = 
+invariant-loop-code l =
     l.all.items ++ all_at_hand l.walk.table.now l.walk.scope.now (code_trees (drop l.code-index l.codes)) ≡
     all_at_hand l.walk.table.now l.walk.scope.now (code_trees l.codes)

@@ -4,5 +4,5 @@ use Rattle.cf_print.specs.Wishes.{place_among}
 use Rattle.cf_print.proofs.wishes.place_among.Given as goal
 
 abbrev pub invariant-loop-code : goal.invariant-loop-code
-invariant-loop-code l = 
+invariant-loop-code l =
     place_among l.place (code_trees (drop l.code-index l.codes)) l.level ≡ place_among l.first (code_trees l.codes) l.level
