@@ -111,7 +111,11 @@ fn results_with(alloc: Global, language: Language, all: &[u8]) -> Result<Text, N
 }
 
 /// What a function gives.
-pub(crate) fn results_text(alloc: Global, language: Language, bases: &[Base]) -> Result<Text, NoMemory>
+pub(crate) fn results_text(
+    alloc: Global,
+    language: Language,
+    bases: &[Base],
+) -> Result<Text, NoMemory>
     ensures { IfOk result (λ t. t ≡ text_of_results language bases.now) }
 {
     match bases {
@@ -183,7 +187,11 @@ fn head_of<'x>(
                 params,
                 b") {\n".as_slice(),
             ],
-        ), number: u32) -> Result<Text, NoMemory>
+        ),
+    }
+}
+
+fn about_part(alloc: Global, number: u32) -> Result<Text, NoMemory>
     ensures { IfOk result (λ t. t ≡ about_the_part number) }
 {
     if number == 0 {

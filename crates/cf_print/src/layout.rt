@@ -196,7 +196,23 @@ pub(crate) fn put_if(
             language,
             depth,
             &[b"if ".as_slice(), condition, b":".as_slice()],
-        ), NoMemory>
+        ),
+        Language::C | Language::JavaScript => put_line(
+            out,
+            language,
+            depth,
+            &[b"if (".as_slice(), condition, b") {".as_slice()],
+        ),
+    }
+}
+
+/// Puts a condition before one statement that leaves.
+pub(crate) fn put_guard(
+    out: &mut Vec<u8>,
+    language: Language,
+    depth: usize,
+    condition: &[u8],
+) -> Result<(), NoMemory>
     ensures { OnOk result (out.new.items ≡ out.old.items ++ line language depth (guard_text language condition.now)) }
 {
     match language {
@@ -206,9 +222,7 @@ pub(crate) fn put_if(
             depth,
             &[b"if (".as_slice(), condition, b")".as_slice()],
         ),
-        Language::Python | Language::JavaScript => put_if(
-            out, language, depth, condition,
-        ),
+        Language::Python | Language::JavaScript => put_if(out, language, depth, condition),
     }
 }
 
@@ -218,12 +232,7 @@ pub(crate) fn put_end(out: &mut Vec<u8>, language: Language, depth: usize) -> Re
 {
     match language {
         Language::Python => Ok(()),
-        Language::C | Language::JavaScript => put_line(
-            out,
-            language,
-            depth,
-            &[b"}".as_slice()],
-        ),
+        Language::C | Language::JavaScript => put_line(out, language, depth, &[b"}".as_slice()]),
     }
 }
 
@@ -262,12 +271,7 @@ pub(crate) fn put_scope(out: &mut Vec<u8>, language: Language, depth: usize) -> 
 {
     match language {
         Language::Python => Ok(()),
-        Language::C | Language::JavaScript => put_line(
-            out,
-            language,
-            depth,
-            &[b"{".as_slice()],
-        ),
+        Language::C | Language::JavaScript => put_line(out, language, depth, &[b"{".as_slice()]),
     }
 }
 
@@ -328,6 +332,12 @@ pub(crate) fn put_search(
                 b"++) {".as_slice(),
             ],
         ),
+    }
+}
+
+/// Puts the name of a variable that no statement reads, so that compilers do not warn of it.
+pub(crate) fn put_unread(
+    out: &mut Vec<u8>,
     language: Language,
     depth: usize,
     name: &[u8],

@@ -294,9 +294,10 @@ pub(crate) fn ahead(alloc: Global, value: &AtHand, scope: Scope) -> Result<Scope
 pub(crate) fn nth_wish(alloc: Global, names: &[Text], k: usize) -> Result<Option<Text>, NoMemory>
     ensures { IfOk result (λ w. w ≡ wish_for names.now k) }
 {
-    match names.get(k) {
-        Some(name) => Ok(Some(name.try_copy(alloc)?)),
-        None => Ok(None),
+    if k < names.len() {
+        Ok(Some(names[k].try_copy(alloc)?))
+    } else {
+        Ok(None)
     }
 }
 
