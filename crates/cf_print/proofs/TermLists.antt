@@ -1,12 +1,13 @@
 -- Lists of terms.
-use Rattle.std.proofs.Common.{◌≡◌, ℕ, zero, suc, ◌+◌, ◌<◌, ◌≤◌, List, [], ◌∷◌, ◌++◌, map, length, drop, get_or, refl, sym, ap, subst, ◌∙◌, arith}
+use Rattle.std.proofs.Common.{◌≡◌, Bool, true, false, ℕ, zero, suc, ◌+◌, ◌<◌, ◌≤◌, List, [], ◌∷◌, ◌++◌, map, length, drop, get_or, refl, sym, ap, subst, ◌∙◌, arith}
 use Rattle.std.proofs.Math.ListN.{drop_of_length-le}
 use Rattle.cf_tree.specs.CodeTree.{code_more}
 use Rattle.cf_tree.specs.CodeView.{code_tree, code_trees}
 use Rattle.cf_tree.specs.declared.code.Code.{Code}
 use Rattle.cf_print.specs.Terms.{Term as TermTree, Terms, call, no_terms, term_more, terms_of as list_terms}
 use Rattle.cf_print.specs.TermView.{term_tree, term_trees}
-use Rattle.cf_print.specs.Expressions.{Sight, applied_all, set_term, term_of, terms_of}
+use Rattle.cf_print.specs.Expressions.{Sight, applied_all, set_term, sum_behind, sum_of, term_of, terms_of}
+use Rattle.cf_print.specs.Summing.{two_summed}
 use Rattle.cf_print.specs.declared.term.Term.{Term}
 use Rattle.cf_print.specs.declared.table.Call.{Call}
 use Rattle.cf_print.specs.declared.table.Form.{Form}
@@ -73,3 +74,25 @@ two_first (c ∷ []) a b h e f = absurd (omega (arith, h))
 two_first (c ∷ d ∷ cs) a b h e f =
     ap (λ x. code_more (code_tree x) (code_more (code_tree d) (code_trees cs))) (sym e) ∙
     ap (λ y. code_more (code_tree a) (code_more (code_tree y) (code_trees cs))) (sym f)
+
+-- ---- sums
+pub sum_by_total : (t : Table) (w : Sight) (all : Terms) (cs : List Code) → 3 ≤ length cs →
+    sum_of t w true all (code_trees cs) ≡ call t.total all
+sum_by_total t w all [] h = absurd (omega (arith, h))
+sum_by_total t w all (c ∷ []) h = absurd (omega (arith, h))
+sum_by_total t w all (c ∷ d ∷ []) h = absurd (omega (arith, h))
+sum_by_total t w all (c ∷ d ∷ e ∷ cs) h = refl
+
+pub sum_goes_on : (t : Table) (w : Sight) (all : Terms) (cs : List Code) → 3 ≤ length cs →
+    sum_of t w false all (code_trees cs) ≡ sum_behind t w (two_summed t w false (code_trees cs)) (code_trees (drop 2 cs))
+sum_goes_on t w all [] h = absurd (omega (arith, h))
+sum_goes_on t w all (c ∷ []) h = absurd (omega (arith, h))
+sum_goes_on t w all (c ∷ d ∷ []) h = absurd (omega (arith, h))
+sum_goes_on t w all (c ∷ d ∷ e ∷ cs) h = refl
+
+pub sum_of_two : (t : Table) (w : Sight) (passes : Bool) (all : Terms) (cs : List Code) → length cs ≡ 2 →
+    sum_of t w passes all (code_trees cs) ≡ two_summed t w passes (code_trees cs)
+sum_of_two t w passes all [] h = absurd (omega (arith, h))
+sum_of_two t w passes all (c ∷ []) h = absurd (omega (arith, h))
+sum_of_two t w passes all (c ∷ d ∷ []) h = refl
+sum_of_two t w passes all (c ∷ d ∷ e ∷ cs) h = absurd (omega (arith, h))

@@ -15,12 +15,6 @@ pub set_of-returns-in_ok-terms-in_default : goal.set_of-returns-in_ok-terms-in_d
 set_of-returns-in_ok-terms-in_default t c =
     c.call_on_all.ensures ∙ filled c.args.walk.now.table.now c.args.walk.now.scope.now c.args.parts.now _ c.in_default.len_at_least c.in_ok-terms-in_default.ensures
 
-pub sum-returns-in_ok-start-in-len2-up : goal.sum-returns-in_ok-start-in-len2-up
-sum-returns-in_ok-start-in-len2-up t c =
-    let shape = two_first c.args.parts.now _ _ c.in-len2-up.len_at_least c.a-item.is c.b-item.is in
-    subst (λ u. IfOk c.sum_behind.result (λ x. term_tree x ≡ sum_of c.args.walk.now.table.now c.args.walk.now.scope.now u)) (sym shape)
-    (search rules)
-
 pub terms-loop-code-preserved : goal.terms-loop-code-preserved
 terms-loop-code-preserved t c =
     next_term c.args.walk.now.table.now c.args.walk.now.scope.now c.args.codes.now c.loop-code.code-index _ c.loop-code.all.items
