@@ -75,7 +75,7 @@ function rising(items) {
 pub const NUMBERS: &[u8] = b"
 /** The argument, any iterable of whole numbers, as a set. */
 function numbers(value) {
-  return rising(Array.from(value, whole));
+  return rising(Array.from(value, (x) => whole(x)));
 }
 ";
 
