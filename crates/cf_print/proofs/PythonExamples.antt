@@ -11,6 +11,7 @@ use Rattle.cf_print.specs.Terms.{text}
 use Rattle.cf_print.specs.Expressions.{Sight, term_of}
 use Rattle.cf_print.specs.Statements.{block, with_let, with_variable, all_in_variables, bound_for, kept, function_of, begun, results_held, called, in_place, give_back, branched, tested, guarded, plain_arm, searched_arm, with_loop, function_name}
 use Rattle.cf_print.specs.Places.{deeper, leaving_by, behind_arm, giving, put, taking, freed, behind_one, ahead, at_hand}
+use Rattle.cf_print.specs.Files.{with_helper}
 use Rattle.cf_print.specs.Printed.{Printing, Names, printed}
 use Rattle.cf_print.specs.declared.exit.Exit.TheVariants.{Falls}
 use Rattle.cf_print.specs.declared.place.Giving.TheVariants.{Results}
@@ -248,5 +249,5 @@ search = refl
 
 whole_file : printed no_names (program (give (code_div (var 0) (pos 2)))) ≡
     codes "\"\"\"Written by Comfusy from this source; each change belongs there.\n\n    # A \\\"test\\\".\n\n    def\n\"\"\"\n\nfrom __future__ import annotations\n\nMAX = 2**127 - 1\n\n\ndef fit(number: int) -> int:\n    \"\"\"The number, where it is at most MAX in absolute value.\"\"\"\n    if not -MAX <= number <= MAX:\n        raise OverflowError(\"overflow\")\n    return number\n\n\ndef whole(value: int) -> int:\n    \"\"\"The argument, where it is a whole number of at most MAX in absolute value.\"\"\"\n    if not isinstance(value, int) or isinstance(value, bool):\n        raise TypeError(\"an int is expected\")\n    return fit(value)\n\n\ndef answer(x: int) -> int:\n    \"\"\"Gives what main does.\n\n    OverflowError where a number is past MAX.\n    \"\"\"\n    whole(x)\n    return x // 2\n"
-unfolding digits with_let with_variable all_in_variables bound_for kept function_of begun results_held called in_place give_back branched tested guarded plain_arm searched_arm with_loop function_name deeper leaving_by behind_arm giving put taking freed behind_one ahead at_hand
+unfolding digits with_let with_variable all_in_variables bound_for kept function_of begun results_held called in_place give_back branched tested guarded plain_arm searched_arm with_loop function_name deeper leaving_by behind_arm giving put taking freed behind_one ahead at_hand with_helper
 whole_file = refl

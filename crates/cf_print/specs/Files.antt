@@ -10,11 +10,9 @@ use Rattle.cf_print.specs.Layout.{base_text, unread_lines, addresses}
 use Rattle.cf_print.specs.Heads.{all_parameters, head_text, parameter_text, results_text}
 use Rattle.cf_print.specs.declared.emission.Language.{Language}
 use Rattle.cf_print.specs.declared.emission.Language.TheVariants.{C, Python, JavaScript}
-use Rattle.cf_print.specs.declared.helpers.Helper.{Helper}
-use Rattle.cf_print.specs.declared.helpers.TheConstants.{PYTHON, C as C_HELPERS, C_DEFINITIONS, JAVASCRIPT}
-use Rattle.cf_print.specs.declared.javascript.TheConstants.{FILTER as JS_FILTER, REPLY as JS_REPLY, FILTER_MAIN as JS_FILTER_MAIN}
-use Rattle.cf_print.specs.declared.python.TheConstants.{IMPORTS, FILTER, REPLY, OUTCOME, FILTER_MAIN}
-use Rattle.cf_print.specs.declared.c.TheConstants.{POSIX, STANDARD, STRING, NUMBERS as NUMBERS_OF_C, STATUS, INCLUDES, PUT, READ_NUMBER, READ_TRUTH, REPLY as C_REPLY, LONG_LINE, BAD_INPUT, TOLD, FILTER_MAIN as C_FILTER_MAIN}
+use Rattle.cf_print.specs.declared.javascript.TheConstants.{MAX as JS_MAX, NONE as JS_NONE, OVERFLOW as JS_OVERFLOW, FIT as JS_FIT, TOTAL as JS_TOTAL, WHOLE as JS_WHOLE, TRUTH as JS_TRUTH, RISING as JS_RISING, NUMBERS as JS_NUMBERS, SET_OF as JS_SET_OF, DIV as JS_DIV, MOD as JS_MOD, LEAST as JS_LEAST, GREATEST as JS_GREATEST, UNION as JS_UNION, INTER as JS_INTER, DIFF as JS_DIFF, SUBSET as JS_SUBSET, SAME as JS_SAME, CARD as JS_CARD, SLICE as JS_SLICE, FRESH as JS_FRESH, FILTER as JS_FILTER, REPLY as JS_REPLY, FILTER_MAIN as JS_FILTER_MAIN}
+use Rattle.cf_print.specs.declared.python.TheConstants.{ITERABLE as PY_ITERABLE, MAX as PY_MAX, NONE as PY_NONE, FIT as PY_FIT, TOTAL as PY_TOTAL, WHOLE as PY_WHOLE, TRUTH as PY_TRUTH, NUMBERS as PY_NUMBERS, SLICE as PY_SLICE, FRESH as PY_FRESH, IMPORTS, FILTER, REPLY, OUTCOME, FILTER_MAIN}
+use Rattle.cf_print.specs.declared.c.TheConstants.{ADD as C_ADD, TOTAL as C_TOTAL, SUB as C_SUB, MUL as C_MUL, DIV_DOWN as C_DIV_DOWN, MOD_UP as C_MOD_UP, LEAST as C_LEAST, GREATEST as C_GREATEST, HALVES as C_HALVES, POSIX, STANDARD, STRING, NUMBERS as NUMBERS_OF_C, STATUS, INCLUDES, PUT, READ_NUMBER, READ_TRUTH, REPLY as C_REPLY, LONG_LINE, BAD_INPUT, TOLD, FILTER_MAIN as C_FILTER_MAIN}
 
 abbrev pub is_number : Base → Bool
 is_number Int = true
@@ -31,12 +29,57 @@ when true t = t
 when false t = []
 
 -- ---- helpers: those that what stands behind them calls
-abbrev pub with_helper : Helper → List ℕ → List ℕ
-with_helper h text = if holds h.key.now text then h.text.now ++ text else text
+unfoldable pub with_helper : List ℕ → List ℕ → List ℕ → List ℕ
+with_helper key helper text = if holds key text then helper ++ text else text
 
-abbrev pub with_helpers : List Helper → List ℕ → List ℕ
-with_helpers [] text = text
-with_helpers (h ∷ hs) text = with_helper h (with_helpers hs text)
+abbrev pub with_python_numbers : List ℕ → List ℕ
+with_python_numbers text =
+    with_helper (codes "Iterable[") PY_ITERABLE.now (with_helper (codes "-MAX <=") PY_MAX.now (with_helper (codes "NoSolution") PY_NONE.now (with_helper (codes "fit(") PY_FIT.now (with_helper (codes "total(") PY_TOTAL.now text))))
+
+abbrev pub with_python_arguments : List ℕ → List ℕ
+with_python_arguments text =
+    with_helper (codes "whole(") PY_WHOLE.now (with_helper (codes "truth(") PY_TRUTH.now (with_helper (codes "numbers(") PY_NUMBERS.now (with_helper (codes "cut(") PY_SLICE.now (with_helper (codes "fresh(") PY_FRESH.now text))))
+
+abbrev pub with_c_sums : List ℕ → List ℕ
+with_c_sums text =
+    with_helper (codes "add(") C_ADD.now (with_helper (codes "total(") C_TOTAL.now (with_helper (codes "sub(") C_SUB.now (with_helper (codes "mul(") C_MUL.now text)))
+
+abbrev pub with_c_quotients : List ℕ → List ℕ
+with_c_quotients text =
+    with_helper (codes "div_down(") C_DIV_DOWN.now (with_helper (codes "mod_up(") C_MOD_UP.now (with_helper (codes "least(") C_LEAST.now (with_helper (codes "greatest(") C_GREATEST.now text)))
+
+abbrev pub with_c_definitions : List ℕ → List ℕ
+with_c_definitions text =
+    with_helper (codes "from_halves(") C_HALVES.now text
+
+abbrev pub with_js_numbers : List ℕ → List ℕ
+with_js_numbers text =
+    with_helper (codes "MAX") JS_MAX.now (with_helper (codes "NoSolution") JS_NONE.now (with_helper (codes "Overflow") JS_OVERFLOW.now (with_helper (codes "fit(") JS_FIT.now (with_helper (codes "total(") JS_TOTAL.now text))))
+
+abbrev pub with_js_arguments : List ℕ → List ℕ
+with_js_arguments text =
+    with_helper (codes "whole(") JS_WHOLE.now (with_helper (codes "truth(") JS_TRUTH.now (with_helper (codes "rising(") JS_RISING.now (with_helper (codes "numbers(") JS_NUMBERS.now (with_helper (codes "set_of(") JS_SET_OF.now text))))
+
+abbrev pub with_js_operations : List ℕ → List ℕ
+with_js_operations text =
+    with_helper (codes "div(") JS_DIV.now (with_helper (codes "mod(") JS_MOD.now (with_helper (codes "least(") JS_LEAST.now (with_helper (codes "greatest(") JS_GREATEST.now text)))
+
+abbrev pub with_js_sets : List ℕ → List ℕ
+with_js_sets text =
+    with_helper (codes "union(") JS_UNION.now (with_helper (codes "inter(") JS_INTER.now (with_helper (codes "diff(") JS_DIFF.now (with_helper (codes "subset(") JS_SUBSET.now text)))
+
+abbrev pub with_js_parts : List ℕ → List ℕ
+with_js_parts text =
+    with_helper (codes "same(") JS_SAME.now (with_helper (codes "card(") JS_CARD.now (with_helper (codes "cut(") JS_SLICE.now (with_helper (codes "fresh(") JS_FRESH.now text)))
+
+abbrev pub with_python_helpers : List ℕ → List ℕ
+with_python_helpers text = with_python_numbers (with_python_arguments text)
+
+abbrev pub with_c_helpers : List ℕ → List ℕ
+with_c_helpers text = with_c_sums (with_c_quotients text)
+
+abbrev pub with_js_helpers : List ℕ → List ℕ
+with_js_helpers text = with_js_numbers (with_js_arguments (with_js_operations (with_js_sets (with_js_parts text))))
 
 -- ---- the source as a comment, which it cannot leave in any language
 
@@ -276,9 +319,11 @@ line_text bs =
 abbrev pub python_reply : List Base → List ℕ
 python_reply bs = if nat_eq (length bs) 1 then codes "written(outcome)" else codes "\" \".join(map(written, outcome))"
 
+abbrev pub python_filter_of : List ℕ → List ℕ → List ℕ → List ℕ
+python_filter_of line name reply = concat (FILTER.now ∷ line ∷ REPLY.now ∷ name ∷ OUTCOME.now ∷ reply ∷ FILTER_MAIN.now ∷ [])
+
 abbrev pub python_filter : Called → List ℕ
-python_filter f =
-    concat (FILTER.now ∷ line_text f.bases ∷ REPLY.now ∷ f.name ∷ OUTCOME.now ∷ python_reply f.results ∷ FILTER_MAIN.now ∷ [])
+python_filter f = python_filter_of (line_text f.bases) f.name (python_reply f.results)
 
 -- in C the variables of a reply: p0, p1, .. and o0, o1, .., where none of these is the name of the function
 abbrev pub numbers_a_value : List ℕ → Bool
@@ -358,20 +403,20 @@ filter_of JavaScript f = js_filter f
 
 -- the file of a function, whose text this is with that of those before it
 abbrev pub python_file : Bool → List ℕ → List ℕ → List ℕ
-python_file has_main source text = (head_of Python source ++ when has_main IMPORTS.now) ++ with_helpers PYTHON.now text
+python_file has_main source text = (head_of Python source ++ when has_main IMPORTS.now) ++ with_python_helpers text
 
 -- in a file of C that is no filter the function has a prototype
 abbrev pub prototype : Bool → Called → List ℕ
 prototype wanted f = when wanted (called_head C f ++ codes ";\n\n")
 
 abbrev pub c_body : Bool → Called → List ℕ → List ℕ
-c_body has_main f text = with_helpers C_DEFINITIONS.now ((STATUS.now ++ prototype (not has_main) f) ++ with_helpers C_HELPERS.now text)
+c_body has_main f text = with_c_definitions ((STATUS.now ++ prototype (not has_main) f) ++ with_c_helpers text)
 
 abbrev pub c_file : Bool → List ℕ → Called → List ℕ → List ℕ
 c_file has_main source f text = (head_of C source ++ c_includes has_main f.bases) ++ c_body has_main f text
 
 abbrev pub js_file : List ℕ → List ℕ → List ℕ
-js_file source text = head_of JavaScript source ++ with_helpers JAVASCRIPT.now text
+js_file source text = head_of JavaScript source ++ with_js_helpers text
 
 abbrev pub file_of : Language → Bool → List ℕ → Called → List ℕ → List ℕ
 file_of Python has_main source f functions = python_file has_main source (functions ++ when has_main (filter_of Python f))

@@ -409,7 +409,7 @@ fn c_opening_of(alloc: Global, is_filter: bool, function: &Called) -> Result<Tex
 }
 
 // What a caller of JavaScript gives.
-fn js_base(base: Base) -> &'static [u8]
+fn js_base<'x>(base: Base) -> &'x [u8]
     ensures { result.now ≡ js_base_of base }
 {
     match base {

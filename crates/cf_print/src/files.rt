@@ -6,7 +6,7 @@ use crate::called::{Called, called_head};
 use crate::comment::put_source;
 use crate::emission::Language;
 use crate::filters::{filter_of, has_truths};
-use crate::helpers::{self, with_helpers};
+use crate::helpers::{with_c_definitions, with_c_helpers, with_js_helpers, with_python_helpers};
 use crate::pieces::text_of_pieces;
 use crate::when::when;
 use crate::{c, python};
@@ -73,7 +73,7 @@ fn python_file_of(
 ) -> Result<Text, NoMemory>
     ensures { IfOk result (λ t. t ≡ python_file has_main source.now text.items) }
 {
-    let body = with_helpers(alloc, helpers::PYTHON, text)?;
+    let body = with_python_helpers(alloc, text)?;
     let mut all = head_of(alloc, Language::Python, source)?;
     all.extend_from_slice(when(has_main, python::IMPORTS))?;
     all.extend_from_slice(&body)?;
@@ -104,12 +104,12 @@ fn c_body(
 ) -> Result<Vec<u8>, NoMemory>
     ensures { IfOk result (λ all. all.items ≡ c_body_of has_main function.now text.items) }
 {
-    let body = with_helpers(alloc, helpers::C, text)?;
+    let body = with_c_helpers(alloc, text)?;
     let first = prototype(alloc, !has_main, function)?;
     let mut all = Vec::from_slice(alloc, c::STATUS)?;
     all.extend_from_slice(&first.bytes)?;
     all.extend_from_slice(&body)?;
-    with_helpers(alloc, helpers::C_DEFINITIONS, all)
+    with_c_definitions(alloc, all)
 }
 
 // The file of C.
@@ -134,7 +134,7 @@ fn c_file_of(
 fn js_file_of(alloc: Global, source: &[u8], text: Vec<u8>) -> Result<Text, NoMemory>
     ensures { IfOk result (λ t. t ≡ js_file source.now text.items) }
 {
-    let body = with_helpers(alloc, helpers::JAVASCRIPT, text)?;
+    let body = with_js_helpers(alloc, text)?;
     let mut all = head_of(alloc, Language::JavaScript, source)?;
     all.extend_from_slice(&body)?;
     Ok(Text { bytes: all })

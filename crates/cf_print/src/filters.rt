@@ -1,7 +1,7 @@
 //! What makes a file a filter of lines.
 ghost use Rattle.std.specs.Prelude.{◌≡◌, ◌++◌, ◌∷◌, [], codes, decimal, drop, suc, map, IfOk, OnOk};
 ghost use Rattle.std.specs.List.{list_any};
-ghost use Rattle.cf_print.specs.Files.{c_call as call_of, c_declared as declared_all, c_declared_one as declared_one, c_filter, c_gap as gap_of, c_read_one as read_one, c_reader as reader_of, c_readers as readers_of, c_reads as reads_all, c_space as space_of, c_writes as writes_all, c_written as written_one, filter_of as filter_for, is_number as is_number_base, is_truth as is_truth_base, numbers_a_value as numbers_value, python_filter, js_filter, js_reply as js_reply_of, line_pattern as pattern_of, line_text as line_of, python_reply as reply_of, reply_name as name_in_reply, reply_names as names_in_reply};
+ghost use Rattle.cf_print.specs.Files.{c_call as call_of, c_declared as declared_all, c_declared_one as declared_one, c_filter, c_gap as gap_of, c_read_one as read_one, c_reader as reader_of, c_readers as readers_of, c_reads as reads_all, c_space as space_of, c_writes as writes_all, c_written as written_one, filter_of as filter_for, is_number as is_number_base, is_truth as is_truth_base, numbers_a_value as numbers_value, python_filter, python_filter_of, js_filter, js_reply as js_reply_of, line_pattern as pattern_of, line_text as line_of, python_reply as reply_of, reply_name as name_in_reply, reply_names as names_in_reply};
 
 use crate::called::Called;
 use crate::count::next;
@@ -59,7 +59,7 @@ fn line_text(alloc: Global, bases: &[Base]) -> Result<Text, NoMemory>
     )
 }
 
-fn python_reply(bases: &[Base]) -> &'static [u8]
+fn python_reply<'x>(bases: &[Base]) -> &'x [u8]
     ensures { result.now ≡ reply_of bases.now }
 {
     if bases.len() == 1 {
@@ -69,19 +69,35 @@ fn python_reply(bases: &[Base]) -> &'static [u8]
     }
 }
 
-fn python_filter_of(alloc: Global, function: &Called) -> Result<Text, NoMemory>
+fn python_filter_for(alloc: Global, function: &Called) -> Result<Text, NoMemory>
     ensures { IfOk result (λ t. t ≡ python_filter function.now) }
 {
     let line = line_text(alloc, &function.bases)?;
+    python_filter_with(
+        alloc,
+        &line.bytes,
+        &function.name.bytes,
+        python_reply(&function.results),
+    )
+}
+
+fn python_filter_with<'x>(
+    alloc: Global,
+    line: &'x [u8],
+    name: &'x [u8],
+    reply: &'x [u8],
+) -> Result<Text, NoMemory>
+    ensures { IfOk result (λ t. t ≡ python_filter_of line.now name.now reply.now) }
+{
     text_of_pieces(
         alloc,
         &[
             python::FILTER,
-            line.bytes.as_slice(),
+            line,
             python::REPLY,
-            function.name.bytes.as_slice(),
+            name,
             python::OUTCOME,
-            python_reply(&function.results),
+            reply,
             python::FILTER_MAIN,
         ],
     )
@@ -202,7 +218,7 @@ fn put_readers(out: &mut Vec<u8>, bases: &[Base]) -> Result<(), NoMemory>
     Ok(())
 }
 
-fn c_reader(base: Base) -> &'static [u8]
+fn c_reader<'x>(base: Base) -> &'x [u8]
     ensures { result.now ≡ reader_of base }
 {
     match base {
@@ -211,7 +227,7 @@ fn c_reader(base: Base) -> &'static [u8]
     }
 }
 
-fn c_gap(is_first: bool) -> &'static [u8]
+fn c_gap<'x>(is_first: bool) -> &'x [u8]
     ensures { result.now ≡ gap_of is_first }
 {
     if is_first {
@@ -412,7 +428,7 @@ pub(crate) fn filter_of(
     ensures { IfOk result (λ t. t ≡ filter_for language function.now) }
 {
     match language {
-        Language::Python => python_filter_of(alloc, function),
+        Language::Python => python_filter_for(alloc, function),
         Language::C => c_filter_of(alloc, function),
         Language::JavaScript => js_filter_of(alloc, function),
     }

@@ -33,7 +33,7 @@ pub(crate) fn put_line(
 }
 
 /// The base of a value.
-pub(crate) fn base_text(language: Language, base: Base) -> &'static [u8]
+pub(crate) fn base_text<'x>(language: Language, base: Base) -> &'x [u8]
     ensures { result.now ≡ base_word language base }
 {
     match language {
