@@ -1,5 +1,5 @@
 //! What makes a file a filter of lines.
-ghost use Rattle.std.specs.Prelude.{◌≡◌, ◌++◌, ◌∷◌, [], codes, decimal, drop, suc, map, IfOk, OnOk};
+ghost use Rattle.std.specs.Prelude.{◌≡◌, ◌++◌, codes, map, true, IfOk, OnOk};
 ghost use Rattle.std.specs.List.{list_any};
 ghost use Rattle.cf_print.specs.Files.{c_call as call_of, c_declared as declared_all, c_declared_one as declared_one, c_filter, c_gap as gap_of, c_read_one as read_one, c_reader as reader_of, c_readers as readers_of, c_reads as reads_all, c_space as space_of, c_writes as writes_all, c_written as written_one, filter_of as filter_for, is_number as is_number_base, is_truth as is_truth_base, numbers_a_value as numbers_value, python_filter, python_filter_of, js_filter, js_reply as js_reply_of, line_pattern as pattern_of, line_text as line_of, python_reply as reply_of, reply_name as name_in_reply, reply_names as names_in_reply};
 

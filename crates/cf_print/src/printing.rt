@@ -7,6 +7,7 @@ ghost use Rattle.cf_stmt.specs.BlockView.{block_tree};
 ghost use Rattle.cf_print.specs.EmissionView.{names_in, printing_of};
 ghost use Rattle.cf_print.specs.Printed.{IsPrint, are_statuses as statuses, called_of as function_called, fitting as wishes_that_fit, is_unread, functions_of as functions_for, lacks_sets as the_lacks_sets, printed as printed_text, setting_of, unread_in as not_read_in, unread_truths as truths_not_read};
 ghost use Rattle.cf_print.specs.PrinterView.{setting_in};
+ghost use Rattle.cf_print.specs.declared.numeral.TheConstants.{INT_END};
 
 use crate::called::{Called, end_of, nones_of, opening_of};
 use crate::draft::Draft;

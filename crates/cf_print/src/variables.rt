@@ -1,8 +1,9 @@
 //! Values that get variables.
-ghost use Rattle.std.specs.Prelude.{◌≡◌, ◌+◌, ◌++◌, ◌∷◌, [], IfOk, drop};
+ghost use Rattle.std.specs.Prelude.{◌≡◌, ◌++◌, ◌∷◌, [], None, false, IfOk};
 ghost use Rattle.cf_stmt.specs.BlockView.{block_tree};
 ghost use Rattle.cf_print.specs.Names.{new_name as free_name};
-ghost use Rattle.cf_print.specs.Places.{Held as HeldValues, table, words};
+ghost use Rattle.cf_print.specs.Layout.{read_lines};
+ghost use Rattle.cf_print.specs.Places.{put, table, words};
 ghost use Rattle.cf_print.specs.PrinterView.{setting_in};
 ghost use Rattle.cf_print.specs.Statements.{all_in_variables as with_all, bound_for as bound_for_block, in_variables as with_those, joined_held as both_held, kept as kept_or_not, no_values as without_values, with_let as with_a_let, with_value as with_one_value, with_variable as with_a_variable, wish_in as wish_of};
 

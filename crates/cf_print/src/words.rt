@@ -13,7 +13,7 @@ pub const C_WORDS: &[u8] = b" \
     default div div_down do double else end enum errno extern false float for free from_halves getline goto greatest \
     i386 if index inline int int64_t j0 j1 jn least linux long main mod_up mul nullptr ok out_bytes out_value past \
     put put_number put_text read_number read_truth register reply restrict return short signed sizeof static \
-    static_assert status stdin stdout struct sub switch thread_local time total true typedef typeof union unix unsigned \
+    static_assert stdin stdout struct sub switch thread_local time total true typedef typeof union unix unsigned \
     used void volatile while white whole y0 y1 yn ";
 
 /// The words of JavaScript, and of printed JavaScript.
