@@ -3,7 +3,8 @@ use Rattle.std.specs.Prelude.{ℕ, pos, ◌≡◌, Bool, true, false, List, [], 
 use Rattle.std.specs.Fmt.{digits}
 use Rattle.cf_tree.specs.declared.base.Base.{Base}
 use Rattle.cf_tree.specs.declared.base.Base.TheVariants.{Int, Bool as Truth, Set}
-use Rattle.cf_tree.specs.CodeTree.{CodeTree, code_lit, code_truth, code_var, code_set_of, code_card, codes_of}
+use Rattle.cf_tree.specs.declared.base.Order.TheVariants.{Ge}
+use Rattle.cf_tree.specs.CodeTree.{CodeTree, code_lit, code_truth, code_var, code_set_of, code_card, code_compare, codes_of}
 use Rattle.cf_stmt.specs.Blocks.{Block, give, none, leave, bind, part, join, test, arm}
 use Rattle.cf_range.specs.Ranges.{whole}
 use Rattle.cf_print.specs.Names.{new_name, may_name, is_name}
@@ -115,6 +116,36 @@ left_at_once : lines_in Python (arm [] (test (give (code_truth true)) leave (giv
     codes "    # Arm 1.\n    if True:\n        pass\n    else:\n        return x\n    # Arm 2.\n    return x\n"
 unfolding digits with_let with_variable all_in_variables bound_for kept function_of begun results_held called in_place give_back branched tested guarded plain_arm searched_arm with_loop function_name deeper leaving_by behind_arm giving put taking freed behind_one ahead at_hand
 left_at_once = refl
+
+-- ---- a block that is not straight is a function before this one
+abbrev functions_in : Language → Block → List ℕ
+functions_in l b = (block (record { language = l; results = []; outputs = λ n. [] }) (record { names = codes "x" ∷ []; bases = Int ∷ []; ranges = whole ∷ [] }) b
+    (record { depth = 1; exit = Falls; arms = 0; giving = Results })
+    (record { lines = []; pointers = codes "out" ∷ []; taken = codes "x" ∷ []; functions = []; numbers = [] })).functions
+
+-- the number where it is 10 or more, or else 3
+abbrev two_ways : Block
+two_ways =
+    bind (arm [] (test (give (code_compare Ge (code_var 0) (code_lit (pos 10)))) (give (code_var 0)) leave) (arm [] (give (code_lit (pos 3))) (none 7)))
+    (give (code_var 1))
+
+call_in_python : lines_in Python two_ways ≡ codes "    n1 = choose_7(x)\n    return n1\n"
+unfolding digits with_let with_variable all_in_variables bound_for kept function_of begun results_held called in_place give_back branched tested guarded plain_arm searched_arm with_loop function_name deeper leaving_by behind_arm giving put taking freed behind_one ahead at_hand
+call_in_python = refl
+
+function_in_python : functions_in Python two_ways ≡
+    codes "\n\ndef choose_7(x: int) -> int:\n    \"\"\"Gives what choose 7 picks.\"\"\"\n    # Arm 1.\n    if x >= 10:\n        return x\n    # Arm 2.\n    return 3\n"
+unfolding digits with_let with_variable all_in_variables bound_for kept function_of begun results_held called in_place give_back branched tested guarded plain_arm searched_arm with_loop function_name deeper leaving_by behind_arm giving put taking freed behind_one ahead at_hand
+function_in_python = refl
+
+call_in_c : lines_in C two_ways ≡
+    codes "    if (past)\n        return COMFUSY_OVERFLOW;\n    whole n1;\n    int status = choose_7(x, &n1);\n    if (status)\n        return status;\n    *out = n1;\n    return past ? COMFUSY_OVERFLOW : 0;\n"
+unfolding digits with_let with_variable all_in_variables bound_for kept function_of begun results_held called in_place give_back branched tested guarded plain_arm searched_arm with_loop function_name deeper leaving_by behind_arm giving put taking freed behind_one ahead at_hand
+call_in_c = refl
+
+call_in_javascript : lines_in JavaScript two_ways ≡ codes "  const n1 = choose_7(x);\n  return n1;\n"
+unfolding digits with_let with_variable all_in_variables bound_for kept function_of begun results_held called in_place give_back branched tested guarded plain_arm searched_arm with_loop function_name deeper leaving_by behind_arm giving put taking freed behind_one ahead at_hand
+call_in_javascript = refl
 
 -- ---- where arms are left
 at_the_end : leaves_at_ends false (arm [] (bind (give (code_var 0)) (test (give (code_truth true)) (give (code_var 0)) leave)) (none 1)) ≡ true
