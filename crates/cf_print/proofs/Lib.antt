@@ -2,6 +2,7 @@ pub mod TermLists
 pub mod ReadsBack
 pub mod PieceLaws
 pub mod NameLaws
+pub mod ReadLists
 pub mod CommentExamples
 pub mod FileExamples
 pub mod FilterExamples

@@ -87,22 +87,6 @@ pub new_name_is_free : (words : List ℕ) (taken : List (List ℕ)) (base : Base
 new_name_is_free words taken base wish =
     first_is_free (is_free words taken) (nth_name words base wish) (suc (length taken)) 0 (longer words taken) (longer_is_free words taken)
 
--- ---- a word in a text
-drop_here : (xs : List ℕ) (i d : ℕ) → i < length xs → drop i xs ≡ get_or xs i d ∷ drop (suc i) xs
-drop_here [] i d h = absurd (omega (arith, h))
-drop_here (x ∷ xs) zero d h = refl
-drop_here (x ∷ xs) (suc i) d h = drop_here xs i d (omega (arith, h))
-
--- where a word does not begin at a place, it is held behind it or not at all
-pub next_place : (part t : List ℕ) (i : ℕ) (x : Bool) → i < length t → begins part (drop i t) ≡ false → holds part (drop i t) ≡ x →
-    holds part (drop (i + 1) t) ≡ x
-next_place part t i x h fails e =
-    let one : suc i ≡ i + 1 = omega arith in
-    let here = drop_here t i 0 h in
-    let at_here = subst (λ u. holds part u ≡ x) here e in
-    let not_here = subst (λ u. begins part u ≡ false) here fails in
-    subst (λ n. holds part (drop n t) ≡ x) one (subst (λ b. (b || holds part (drop (suc i) t)) ≡ x) not_here at_here)
-
 -- ---- the search for a free name
 one_left : (f : List ℕ → Bool) (name : ℕ → List ℕ) (n i : ℕ) (last x : List ℕ) → i < n → first_free f name (n - i) i last ≡ x →
     (if f (name i) then name i else first_free f name (n - (i + 1)) (i + 1) last) ≡ x

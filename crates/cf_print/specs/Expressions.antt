@@ -1,5 +1,6 @@
 -- The term of an expression, by the table of a language.
 use Rattle.std.specs.Prelude.{ℕ, ℤ, pos, int_lt, unsigned_abs, nat_lt, ◌/◌, ◌%◌, Bool, true, false, List, [], ◌∷◌, ◌++◌, ◌&&◌, ◌||◌, not, option_map, Option, Some, None, slice_index_or, decimal, codes, if◌then◌else◌}
+use Rattle.std.specs.List.{concat}
 use Rattle.cf_tree.specs.declared.base.Base.{Base}
 use Rattle.cf_tree.specs.declared.base.Base.TheVariants.{Int, Bool as Truth, Set}
 use Rattle.cf_tree.specs.declared.base.Order.{Order}
@@ -50,8 +51,11 @@ base_of bs c = Int
 -- ---- numerals
 
 -- a number of C past `long long`, in two halves of 64 bits
+abbrev pub both_halves : List ℕ → List ℕ → List ℕ
+both_halves high low = concat (codes "from_halves(" ∷ high ∷ codes ", " ∷ low ∷ codes "ULL)" ∷ [])
+
 abbrev pub halves : ℕ → List ℕ
-halves n = (codes "from_halves(" ++ decimal (n / HALF)) ++ (codes ", " ++ decimal (n % HALF) ++ codes "ULL)")
+halves n = both_halves (decimal (n / HALF)) (decimal (n % HALF))
 
 -- a number that is not negative
 abbrev pub numeral : Numerals → ℕ → List ℕ

@@ -237,7 +237,8 @@ pub record Called : Type 0 where
 abbrev pub called_head : Language → Called → List ℕ
 called_head Python f = head_text Python f.name (called_parameters f.params f.bases) f.results
 called_head C f = head_text C f.name (all_parameters C f.params f.bases f.pointers f.results) f.results
-called_head JavaScript f = codes "export " ++ head_text JavaScript f.name (all_parameters JavaScript f.params f.bases f.pointers f.results) f.results
+called_head JavaScript f =
+    concat (codes "export " ∷ head_text JavaScript f.name (all_parameters JavaScript f.params f.bases f.pointers f.results) f.results ∷ [])
 
 -- a line for each variable of C that no statement reads
 abbrev pub all_unread : List (List ℕ) → List ℕ
@@ -330,7 +331,7 @@ abbrev pub numbers_a_value : List ℕ → Bool
 numbers_a_value name = is_numbered (codes "p") name || is_numbered (codes "o") name
 
 abbrev pub reply_name : List ℕ → List ℕ → ℕ → List ℕ
-reply_name name letter k = concat (when (numbers_a_value name) (codes "the_") ∷ letter ∷ decimal k ∷ [])
+reply_name name letter k = when (numbers_a_value name) (codes "the_") ++ letter ++ decimal k
 
 abbrev pub reply_names : List ℕ → List ℕ → ℕ → List Base → List (List ℕ)
 reply_names name letter k [] = []

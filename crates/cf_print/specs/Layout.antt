@@ -113,7 +113,7 @@ through d _ _ = []
 -- one value alone, and several in brackets
 abbrev pub bracketed : List ℕ → List ℕ → List (List ℕ) → List ℕ
 bracketed opening closing (x ∷ []) = x
-bracketed opening closing xs = concat (opening ∷ joined (codes ", ") xs ∷ closing ∷ [])
+bracketed opening closing xs = opening ++ joined (codes ", ") xs ++ closing
 
 -- several values as they stand behind `return` or before an equality sign
 abbrev pub all_text : Language → List (List ℕ) → List ℕ

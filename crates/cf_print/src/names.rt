@@ -24,12 +24,15 @@ fn begins(part: &[u8], text: &[u8]) -> bool
 pub(crate) fn holds(part: &[u8], text: &[u8]) -> bool
     ensures { result ≡ holds_within part.now text.now }
 {
-    for i in 0..text.len() {
-        if begins(part, &text[i..]) {
+    let mut rest = text;
+    while let Some((byte, more)) = rest.split_first() {
+        let _byte = *byte;
+        if begins(part, rest) {
             return true;
         }
+        rest = more;
     }
-    begins(part, &[])
+    begins(part, rest)
 }
 
 fn stands_among(alloc: Global, word: &[u8], words: &[u8]) -> Result<bool, NoMemory>

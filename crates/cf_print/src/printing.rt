@@ -66,6 +66,7 @@ fn is_unread_truth(level: u32, block: &Block, base: Base) -> Result<bool, NoMemo
 }
 
 // Truth values that a block does not read.
+#[tactic(auto, using(crate::proofs::ReadLists::one_wanted))]
 fn unread_truths(
     alloc: Global,
     block: &Block,

@@ -141,6 +141,7 @@ pub(crate) fn push_name(
 }
 
 /// The names of variables that a block reads.
+#[tactic(auto, using(crate::proofs::ReadLists::one_wanted))]
 pub(crate) fn names_read(
     alloc: Global,
     block: &Block,
@@ -167,6 +168,7 @@ fn push_base(all: &mut Vec<Base>, base: Base, wanted: bool) -> Result<(), NoMemo
 }
 
 /// The bases of variables that a block reads.
+#[tactic(auto, using(crate::proofs::ReadLists::one_wanted))]
 pub(crate) fn bases_read(
     alloc: Global,
     block: &Block,

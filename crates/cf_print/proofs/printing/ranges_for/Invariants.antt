@@ -2,5 +2,5 @@ use Rattle.std.proofs.Common.{◌≡◌, ◌++◌, drop, map}
 use Rattle.cf_range.specs.Ranges.{whole}
 use Rattle.cf_print.proofs.printing.ranges_for.Given as goal
 
-abbrev pub invariant-loop-_base : goal.invariant-loop-_base
-invariant-loop-_base l = l.all.items ++ map (λ b. whole) (drop l._base-index l.bases) ≡ map (λ b. whole) l.bases
+abbrev pub invariant-loop-base : goal.invariant-loop-base
+invariant-loop-base l = l.all.items ++ map (λ b. whole) (drop l.base-index l.bases) ≡ map (λ b. whole) l.bases
