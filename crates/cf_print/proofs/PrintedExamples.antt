@@ -119,7 +119,8 @@ left_at_once = refl
 
 -- ---- a block that is not straight is a function before this one
 abbrev functions_in : Language → Block → List ℕ
-functions_in l b = (block (record { language = l; results = []; outputs = λ n. [] }) (record { names = codes "x" ∷ []; bases = Int ∷ []; ranges = whole ∷ [] }) b
+functions_in l b = (block (record { language = l; results = []; outputs = λ n. [] }) (record { names = codes "x" ∷ []; bases = Int ∷ []; ranges = whole ∷ [] })
+    b
     (record { depth = 1; exit = Falls; arms = 0; giving = Results })
     (record { lines = []; pointers = codes "out" ∷ []; taken = codes "x" ∷ []; functions = []; numbers = [] })).functions
 

@@ -34,19 +34,25 @@ with_helper key helper text = if holds key text then helper ++ text else text
 
 abbrev pub with_python_numbers : List ℕ → List ℕ
 with_python_numbers text =
-    with_helper (codes "Iterable[") PY_ITERABLE.now (with_helper (codes "-MAX <=") PY_MAX.now (with_helper (codes "NoSolution") PY_NONE.now (with_helper (codes "fit(") PY_FIT.now (with_helper (codes "total(") PY_TOTAL.now text))))
+    with_helper (codes "Iterable[") PY_ITERABLE.now
+    (with_helper (codes "-MAX <=") PY_MAX.now
+    (with_helper (codes "NoSolution") PY_NONE.now (with_helper (codes "fit(") PY_FIT.now (with_helper (codes "total(") PY_TOTAL.now text))))
 
 abbrev pub with_python_arguments : List ℕ → List ℕ
 with_python_arguments text =
-    with_helper (codes "whole(") PY_WHOLE.now (with_helper (codes "truth(") PY_TRUTH.now (with_helper (codes "numbers(") PY_NUMBERS.now (with_helper (codes "cut(") PY_SLICE.now (with_helper (codes "fresh(") PY_FRESH.now text))))
+    with_helper (codes "whole(") PY_WHOLE.now
+    (with_helper (codes "truth(") PY_TRUTH.now
+    (with_helper (codes "numbers(") PY_NUMBERS.now (with_helper (codes "cut(") PY_SLICE.now (with_helper (codes "fresh(") PY_FRESH.now text))))
 
 abbrev pub with_c_sums : List ℕ → List ℕ
 with_c_sums text =
-    with_helper (codes "add(") C_ADD.now (with_helper (codes "total(") C_TOTAL.now (with_helper (codes "sub(") C_SUB.now (with_helper (codes "mul(") C_MUL.now text)))
+    with_helper (codes "add(") C_ADD.now (with_helper (codes "total(") C_TOTAL.now
+    (with_helper (codes "sub(") C_SUB.now (with_helper (codes "mul(") C_MUL.now text)))
 
 abbrev pub with_c_quotients : List ℕ → List ℕ
 with_c_quotients text =
-    with_helper (codes "div_down(") C_DIV_DOWN.now (with_helper (codes "mod_up(") C_MOD_UP.now (with_helper (codes "least(") C_LEAST.now (with_helper (codes "greatest(") C_GREATEST.now text)))
+    with_helper (codes "div_down(") C_DIV_DOWN.now
+    (with_helper (codes "mod_up(") C_MOD_UP.now (with_helper (codes "least(") C_LEAST.now (with_helper (codes "greatest(") C_GREATEST.now text)))
 
 abbrev pub with_c_definitions : List ℕ → List ℕ
 with_c_definitions text =
@@ -54,23 +60,29 @@ with_c_definitions text =
 
 abbrev pub with_js_numbers : List ℕ → List ℕ
 with_js_numbers text =
-    with_helper (codes "MAX") JS_MAX.now (with_helper (codes "NoSolution") JS_NONE.now (with_helper (codes "Overflow") JS_OVERFLOW.now (with_helper (codes "fit(") JS_FIT.now (with_helper (codes "total(") JS_TOTAL.now text))))
+    with_helper (codes "MAX") JS_MAX.now (with_helper (codes "NoSolution") JS_NONE.now
+    (with_helper (codes "Overflow") JS_OVERFLOW.now (with_helper (codes "fit(") JS_FIT.now (with_helper (codes "total(") JS_TOTAL.now text))))
 
 abbrev pub with_js_arguments : List ℕ → List ℕ
 with_js_arguments text =
-    with_helper (codes "whole(") JS_WHOLE.now (with_helper (codes "truth(") JS_TRUTH.now (with_helper (codes "rising(") JS_RISING.now (with_helper (codes "numbers(") JS_NUMBERS.now (with_helper (codes "set_of(") JS_SET_OF.now text))))
+    with_helper (codes "whole(") JS_WHOLE.now
+    (with_helper (codes "truth(") JS_TRUTH.now
+    (with_helper (codes "rising(") JS_RISING.now (with_helper (codes "numbers(") JS_NUMBERS.now (with_helper (codes "set_of(") JS_SET_OF.now text))))
 
 abbrev pub with_js_operations : List ℕ → List ℕ
 with_js_operations text =
-    with_helper (codes "div(") JS_DIV.now (with_helper (codes "mod(") JS_MOD.now (with_helper (codes "least(") JS_LEAST.now (with_helper (codes "greatest(") JS_GREATEST.now text)))
+    with_helper (codes "div(") JS_DIV.now (with_helper (codes "mod(") JS_MOD.now
+    (with_helper (codes "least(") JS_LEAST.now (with_helper (codes "greatest(") JS_GREATEST.now text)))
 
 abbrev pub with_js_sets : List ℕ → List ℕ
 with_js_sets text =
-    with_helper (codes "union(") JS_UNION.now (with_helper (codes "inter(") JS_INTER.now (with_helper (codes "diff(") JS_DIFF.now (with_helper (codes "subset(") JS_SUBSET.now text)))
+    with_helper (codes "union(") JS_UNION.now
+    (with_helper (codes "inter(") JS_INTER.now (with_helper (codes "diff(") JS_DIFF.now (with_helper (codes "subset(") JS_SUBSET.now text)))
 
 abbrev pub with_js_parts : List ℕ → List ℕ
 with_js_parts text =
-    with_helper (codes "same(") JS_SAME.now (with_helper (codes "card(") JS_CARD.now (with_helper (codes "cut(") JS_SLICE.now (with_helper (codes "fresh(") JS_FRESH.now text)))
+    with_helper (codes "same(") JS_SAME.now (with_helper (codes "card(") JS_CARD.now
+    (with_helper (codes "cut(") JS_SLICE.now (with_helper (codes "fresh(") JS_FRESH.now text)))
 
 abbrev pub with_python_helpers : List ℕ → List ℕ
 with_python_helpers text = with_python_numbers (with_python_arguments text)

@@ -25,8 +25,7 @@ pub(crate) fn holds(part: &[u8], text: &[u8]) -> bool
     ensures { result ≡ holds_within part.now text.now }
 {
     let mut rest = text;
-    while let Some((byte, more)) = rest.split_first() {
-        let _byte = *byte;
+    while let Some((_byte, more)) = rest.split_first() {
         if begins(part, rest) {
             return true;
         }

@@ -13,7 +13,8 @@ over_all-returns-in_ok-terms-in-Called t c =
 
 pub set_of-returns-in_ok-terms-in_default : goal.set_of-returns-in_ok-terms-in_default
 set_of-returns-in_ok-terms-in_default t c =
-    c.call_on_all.ensures ∙ filled c.args.walk.now.table.now c.args.walk.now.scope.now c.args.parts.now _ c.in_default.len_at_least c.in_ok-terms-in_default.ensures
+    c.call_on_all.ensures ∙ filled c.args.walk.now.table.now c.args.walk.now.scope.now c.args.parts.now _ c.in_default.len_at_least
+    c.in_ok-terms-in_default.ensures
 
 pub terms-loop-code-preserved : goal.terms-loop-code-preserved
 terms-loop-code-preserved t c =

@@ -6,5 +6,6 @@ use Rattle.cf_print.proofs.variables.bound_for.Given as goal
 
 abbrev pub invariant-loop-k : goal.invariant-loop-k
 invariant-loop-k l =
-    in_variables (setting_in l.printer) l.place.depth (wish_in (setting_in l.printer) l.place l.level (block_tree l.block)) l.k (drop l.k l.values.items) l.bound ≡
+    in_variables (setting_in l.printer) l.place.depth (wish_in (setting_in l.printer) l.place l.level (block_tree l.block)) l.k (drop l.k l.values.items)
+    l.bound ≡
     bound_for (setting_in l.printer) l.place l.level (block_tree l.block) l.fn.held
