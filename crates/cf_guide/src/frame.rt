@@ -1,0 +1,105 @@
+//! What the guide keeps of an open node.
+use cf_close::{Fact, FactKind};
+use cf_linear::Row;
+use cf_simplex::{Simplex, Stop};
+use std::alloc::Global;
+
+/// A column that an equation puts in terms of others: its entry there is 1 or -1, and it stands in no fact but
+/// this and earlier solved ones.
+#[derive(Clone, Copy, Debug, PartialEq, Eq)]
+pub(crate) struct Solved {
+    pub column: u32,
+    pub fact: usize,
+}
+
+/// An open node.
+#[derive(Drop)]
+pub(crate) struct Frame {
+    /// In the order in which they were solved.
+    pub solved: Vec<Solved>,
+    /// So many first facts have no solved column.
+    pub clean: usize,
+    /// How many splits lead here.
+    pub depth: u64,
+    /// How many splits at fractions came last.
+    pub fractions: u64,
+    /// How often cuts were made.
+    pub rounds: u64,
+    /// The rows so far, where nothing else is to be done before a point is looked for.
+    pub simplex: Option<Simplex>,
+    /// So many first facts are in the simplex.
+    pub added: usize,
+}
+
+impl Frame {
+    pub(crate) fn root(alloc: Global) -> Frame {
+        Frame {
+            solved: Vec::new(alloc),
+            clean: 0,
+            depth: 0,
+            fractions: 0,
+            rounds: 0,
+            simplex: None,
+            added: 0,
+        }
+    }
+
+    /// A node one split further down.
+    pub(crate) fn child(&self, alloc: Global) -> Result<Frame, Stop> {
+        Ok(Frame {
+            solved: Vec::from_slice(alloc, &self.solved)?,
+            clean: self.clean,
+            depth: self.depth.saturating_add(1),
+            fractions: 0,
+            rounds: 0,
+            simplex: None,
+            added: 0,
+        })
+    }
+
+    /// Whether the fact solves a column.
+    pub(crate) fn solves(&self, fact: usize) -> bool {
+        for solved in &self.solved {
+            if solved.fact == fact {
+                return true;
+            }
+        }
+        false
+    }
+
+    /// Whether the fact is an inequality with columns, or an equation that solves none.
+    pub(crate) fn is_live(&self, fact: &Fact, place: usize) -> bool {
+        crate::rows::column_count(&fact.row) > 0
+            && (fact.kind == FactKind::Inequality || !self.solves(place))
+    }
+
+    pub(crate) fn has_solved(&self, column: u32) -> bool {
+        for solved in &self.solved {
+            if solved.column == column {
+                return true;
+            }
+        }
+        false
+    }
+
+    /// The first solved column that stands in the row.
+    pub(crate) fn first_solved(&self, row: &Row) -> Option<Solved> {
+        for solved in &self.solved {
+            if row.entry(solved.column) != 0 {
+                return Some(*solved);
+            }
+        }
+        None
+    }
+}
+
+/// How many facts are inequalities with columns, or equations that solve none.
+pub(crate) fn live_count(frame: &Frame, facts: &[Fact]) -> u32 {
+    let mut count: u32 = 0;
+    for (place, fact) in facts.iter().enumerate() {
+        if frame.is_live(fact, place) {
+            count = count.saturating_add(1);
+        }
+    }
+    count
+}
