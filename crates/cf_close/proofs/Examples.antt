@@ -1,5 +1,5 @@
 -- Problems with and without solutions.
-use Rattle.std.proofs.Common.{◌≡◌, ℕ, zero, suc, ◌==◌, ℤ, pos, negsuc, List, [], ◌∷◌, Bool, true, false, cond, refl, arith, inl}
+use Rattle.std.proofs.Common.{◌≡◌, ℕ, zero, suc, ◌==◌, ℤ, pos, negsuc, List, [], ◌∷◌, Bool, true, false, cond, refl, arith, inl, inr}
 use Rattle.std.specs.Prelude.{not}
 use Rattle.std.proofs.lemmas.Int.{ints}
 use Rattle.std.proofs.lemmas.List.Elements.{All-push}
@@ -36,9 +36,9 @@ minus_1_is_below_0 = record {
 no_branch_holds : HasNone (record { conjunctions = record { facts = []; ors = [] ∷ [] } ∷ []; root = 0 })
 no_branch_holds = record { none = λ v m s. (s.marked 0 bare (omega arith) s.root).ors_hold 0 [] (omega arith) }
 
--- x == 2 or x == 3
+-- x == 3 or x == 2
 abbrev two_or_three : List Conjunction
-two_or_three = record { facts = []; ors = (1 ∷ 2 ∷ []) ∷ [] } ∷
+two_or_three = record { facts = []; ors = (2 ∷ 1 ∷ []) ∷ [] } ∷
     record { facts = equation ((0, negsuc 1) ∷ (1, pos 1) ∷ []) ∷ []; ors = [] } ∷
     record { facts = equation ((0, negsuc 2) ∷ (1, pos 1) ∷ []) ∷ []; ors = [] } ∷ []
 
@@ -51,7 +51,7 @@ but_the_last i = not (i == 2)
 marked_hold : MarkedHold at_two but_the_last two_or_three
 marked_hold zero d l e = record {
   facts_hold = All-none (FactHolds at_two);
-  ors_hold = All-push (OrHolds but_the_last) [] (1 ∷ 2 ∷ []) (All-none (OrHolds but_the_last)) (inl refl);
+  ors_hold = All-push (OrHolds but_the_last) [] (2 ∷ 1 ∷ []) (All-none (OrHolds but_the_last)) (inr (inl refl));
 }
 marked_hold (suc zero) d l e = record {
   facts_hold = All-push (FactHolds at_two) [] (equation ((0, negsuc 1) ∷ (1, pos 1) ∷ [])) (All-none (FactHolds at_two)) refl;

@@ -99,8 +99,9 @@ fn an_odd_number_is_not_even(rt: HostRuntime) {
 fn a_guide_may_stop(rt: HostRuntime) {
     let alloc = rt.alloc();
     let problem = alone(alloc, &[(FactKind::Equation, -1, 2)]).expect(&rt, "problem");
-    let actions = Vec::from_array(alloc, []).expect(&rt, "actions");
-    let mut guide = Script { actions };
+    let mut guide = Script {
+        actions: Vec::new(alloc),
+    };
     assert!(rt; close(alloc, problem, &mut guide, 5) == Ok(Answer::Open));
 }
 
