@@ -1,4 +1,4 @@
-"""The pages: what they quote is what the program writes, each example is named, and each definition that they name is there.
+"""The pages: what they quote is what the program writes, each example is named, and each definition and place that they name is there.
 
 A page quotes a command behind `$ ` in a block, and below it what the command writes. `cat` on a file of an example, `./comfusy` on such a file, and the
 `echo $?` behind one are done as they stand there, and what they write is compared. A command that reads lines reads those of its example. Commands that write
@@ -11,6 +11,7 @@ import re
 from collections.abc import Iterator
 from dataclasses import dataclass
 from functools import partial
+from pathlib import Path
 
 from harness import examples
 from harness.checks import Check, equal
@@ -20,6 +21,7 @@ from harness.program import ROOT, Ended, Room
 PAGES = ("README.md", *sorted(str(path.relative_to(ROOT)) for path in ROOT.glob("docs/*.md")))
 NAMING = ("docs/GUIDE.md", "docs/LANGUAGE.md")
 DEFINING = ("docs/DEFINITIONS.md", "docs/DEFINITIONS-elimination.md", "docs/THEOREM.md", "docs/PROVED.md")
+LINK = re.compile(r"\]\((?!https?:)([^)#\s]*)#?([^)\s]*)\)")
 DEFINITION = re.compile(r"`([A-Z]\w+)\.([A-Za-z_]\w*)")
 READING = re.compile(r"(?:run|exec) (examples/[a-z-]+)\.[a-z]+ < (examples/[a-z-]+)\.in")
 
@@ -109,8 +111,27 @@ def try_definitions(_: Room) -> Iterator[Check]:
         yield equal(f"{page}, definitions", (gone, []))
 
 
+def headings(path: Path) -> set[str]:
+    """How links name the headings of a page."""
+    titles = re.findall(r"^#+ (.*)$", path.read_text(encoding="utf-8"), re.MULTILINE)
+    return {re.sub(r"[^\w -]", "", title.lower()).replace(" ", "-") for title in titles}
+
+
+def leads(page: str, name: str, heading: str) -> bool:
+    path = (ROOT / page).parent / name if name else ROOT / page
+    return path.exists() and (not heading or heading in headings(path))
+
+
+def try_links(_: Room) -> Iterator[Check]:
+    """Each link within the repository leads to a file, and to a heading of it where it names one."""
+    for page in PAGES:
+        links = LINK.findall((ROOT / page).read_text(encoding="utf-8"))
+        yield equal(f"{page}, links", ([f"{name}#{heading}" for name, heading in links if not leads(page, name, heading)], []))
+
+
 def jobs() -> Iterator[Job]:
     for page in PAGES:
         yield Job(page, partial(try_page, page))
     yield Job("pages", try_names)
     yield Job("pages", try_definitions)
+    yield Job("pages", try_links)

@@ -16,9 +16,8 @@ from harness.checks import Check, equal
 from harness.jobs import Job
 from harness.program import MOST_SECONDS, Room
 
-from .editions import HEADER
+from .many_lines import SOURCE
 
-SOURCE = HEADER + b"def main(a: int): int = choose (x: int) where 2 * x <= a < 2 * x + 2\n"
 BYTES, PARTITIONS, LINES_OF_A_BLOCK = 128 << 20, 2, 20_000
 
 
