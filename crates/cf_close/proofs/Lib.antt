@@ -1,0 +1,6 @@
+mod Examples
+pub mod FactLemmas
+pub mod NodeLemmas
+pub mod BranchLemmas
+pub mod RefutationLemmas
+pub mod DefineLemmas

@@ -1,0 +1,9 @@
+use Rattle.std.proofs.Common.{◌∙◌, []}
+use Rattle.std.proofs.lemmas.List.{get_or_default}
+use Rattle.cf_close.proofs.node.or_at.Goals as goal
+
+pub returns-in-Some : goal.returns-in-Some
+returns-in-Some c =
+    let l = rw c.ors.ensures at c.in-Some.ensures.lookup.3.0 in
+    let e = rw c.ors.ensures at c.in-Some.ensures.lookup.1 in
+    (l, e ∙ get_or_default c.args.node.now.ors c.args.or c.in-Some.places.now [] l)

@@ -1,0 +1,4 @@
+pub mod Facts
+pub mod Problems
+pub mod Nodes
+pub mod Branches
