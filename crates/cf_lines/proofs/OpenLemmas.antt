@@ -6,7 +6,6 @@ use Rattle.cf_io.specs.Seen.{ShelfSeen}
 use Rattle.cf_tree.specs.declared.base.Edition.{Edition}
 use Rattle.cf_tree.specs.declared.base.Edition.TheVariants.{Two, Three}
 use Rattle.cf_tree.specs.declared.target.RawTarget.{RawTarget}
-use Rattle.cf_target.specs.Spelling.{target_tree}
 use Rattle.cf_pass.specs.Passes.{Told}
 use Rattle.cf_words.specs.Commands.{Command, command_on, run, exec, file_command}
 use Rattle.cf_words.specs.declared.command.CommandKind.{CommandKind}
@@ -20,7 +19,6 @@ use Rattle.cf_answer.specs.Limits.{text_limit, written_limit, of_target, most_of
 use Rattle.cf_answer.specs.Outside.{AreTold, AreTexts}
 use Rattle.cf_answer.specs.Owed.{Replier, by_target, AreReplies}
 use Rattle.cf_answer.specs.Refusals.{too_long, Refuses}
-use Rattle.cf_answer.specs.Sources.{IsTypedTarget}
 use Rattle.cf_answer.specs.Steps.{IsVerdict, IsNamedRunner, replier_of}
 use Rattle.cf_answer.specs.Written.{IsOfText, IsWrittenOf, line_of, linearity_of, source_of}
 use Rattle.cf_answer.specs.declared.answerer.Replier.{Replier as DeclaredReplier}
@@ -30,7 +28,7 @@ use Rattle.cf_answer.specs.declared.fault.Fault.{Fault}
 use Rattle.cf_answer.specs.declared.fault.Fault.TheVariants as fault
 use Rattle.cf_answer.proofs.FaultLemmas.{failed}
 use Rattle.cf_answer.proofs.EndedLemmas.{IsPlain, front_told, past_whole, plain_file, plain_memory, plain_written, told_front}
-use Rattle.cf_lines.specs.Opening.{answers_lines, RepliesFor, IsShut, IsOpening, IsUnread, IsRead, IsOpenedFront, IsUnasked}
+use Rattle.cf_lines.specs.Opening.{answers_lines, RepliesFor, IsShut, IsShutBy, IsOpening, IsUnread, IsRead, IsShutFront, IsOpenedFront, IsUnasked}
 use Rattle.cf_lines.specs.Opening.{no_lines, no_file, refused, out_of_memory, bad, long, lost}
 
 -- ---- texts
@@ -42,16 +40,16 @@ run_replies flags form file text given last r is = λ ls replies h. (r.names.ite
 
 -- what answers lines for `exec`
 pub exec_replies : (form : ReplyForm) (file text : List ℕ) (given last : List Told) (t : RawTarget) (r : DeclaredReplier) →
-    IsTypedTarget text (target_tree t) → replier_of r ≡ record { by = by_target t; form = form_of form [] } →
-    RepliesFor (exec form file) (text ∷ []) given last (replier_of r)
-exec_replies form file text given last t r typed same = λ ls replies h. (t, typed, subst (λ who. AreReplies who ls replies) same h)
+    RepliesFor (exec form file) (text ∷ []) given last (record { by = by_target t; form = form_of form [] }) →
+    replier_of r ≡ record { by = by_target t; form = form_of form [] } → RepliesFor (exec form file) (text ∷ []) given last (replier_of r)
+exec_replies form file text given last t r owed same = λ ls replies h. owed ls replies (subst (λ who. AreReplies who ls replies) same h)
 
 -- a text that is within its limit was read as it is
 pub text_read : (command : Command) (given last : List Told) (front : List ℕ) (r : Result DeclaredReplier Fault) → length front ≤ text_most command Two →
     IsVerdict (λ x. RepliesFor command (front ∷ []) given last (replier_of x)) (Refuses command (front ∷ [])) r → IsRead command given last front r
-text_read command given last front (Ok x) few h = (few, h)
-text_read command given last front (Err f) few (inl no) = (bad few no, inr few)
-text_read command given last front (Err f) few (inr is) = (lost is, inr few)
+text_read command given last front (Ok x) few h = record { is = (few, h) }
+text_read command given last front (Err f) few (inl refusal) = record { is = (bad few refusal, inr few) }
+text_read command given last front (Err f) few (inr is) = record { is = (lost is, inr few) }
 
 -- ---- files
 -- a target past the largest limit is past its own
@@ -93,9 +91,9 @@ has_name c = subst (λ ns. Contains ns c.file.now) (sym (one_name c.kind c.flags
 front_shut : (c : FileCommand) (before after : ShelfSeen) (front whole : List ℕ) (f : Fault) → AreTold (before.texts c.file.now) whole →
     IfSome (before.texts c.file.now) (λ text. front ≡ take (text_most (file_command c) Two + 1) text) →
     front ≡ take (text_most (file_command c) Two + 1) whole → IsUnread (file_command c) front f → IsShut (Some (file_command c)) before after f
-front_shut c before after front whole f told read whole_read (bad few no) =
+front_shut c before after front whole f told read whole_read (bad few refusal) =
     refused (file_command c) (front ∷ []) refl
-    (one_text c before.texts front (told_front (text_most (file_command c) Two) (before.texts c.file.now) front read few)) no
+    (one_text c before.texts front (told_front (text_most (file_command c) Two) (before.texts c.file.now) front read few)) refusal
 front_shut c before after front whole f told read whole_read (long is many) =
     refused (file_command c) (whole ∷ []) refl (one_text c before.texts whole told)
     (subst (Refuses (file_command c) (whole ∷ [])) (sym is)
@@ -107,13 +105,13 @@ pub file_opened : (c : FileCommand) (given last : List Told) (before after : She
     answers_lines (file_command c) ≡ true →
     IfSome (before.texts c.file.now) (λ text. front ≡ take (text_most (file_command c) Two + 1) text) →
     length front ≤ text_most (file_command c) Two + 1 → IsOpenedFront c given last front r → IsOpening (Some (file_command c)) given last before after r
-file_opened c given last before after front (Ok r) lines read short (few, replies) = record {
+file_opened c given last before after front (Ok r) lines read short opened = record {
   asked = file_command c;
   is = refl;
   lines = lines;
   files = front ∷ [];
-  told = one_text c before.texts front (told_front (text_most (file_command c) Two) (before.texts c.file.now) front read few);
-  replies = replies;
+  told = one_text c before.texts front (told_front (text_most (file_command c) Two) (before.texts c.file.now) front read opened.is.0);
+  replies = opened.is.1;
 }
 file_opened c given last before after front (Err e) lines read short (f, is, why, written) =
     let whole = front_told (text_most (file_command c) Two + 1) (before.texts c.file.now) front read short in record {
@@ -124,9 +122,9 @@ file_opened c given last before after front (Err e) lines read short (f, is, why
     }
 
 -- the file failed
-pub file_failed : (c : FileCommand) (given last : List Told) (before after : ShelfSeen) (e : Ended) → e.answer ≡ Err fault.File → e.message ≡ None →
-    Rose (before.faults c.file.now) (after.faults c.file.now) → IsOpening (Some (file_command c)) given last before after (Err e)
-file_failed c given last before after e is none rose = record {
+pub file_failed : (c : FileCommand) (before after : ShelfSeen) (e : Ended) → e.answer ≡ Err fault.File → e.message ≡ None →
+    Rose (before.faults c.file.now) (after.faults c.file.now) → IsShutBy (Some (file_command c)) before after e
+file_failed c before after e is none rose = record {
   why = fault.File;
   is = is;
   shut = no_file (file_command c) c.file.now refl refl (has_name c) rose;
@@ -134,9 +132,9 @@ file_failed c given last before after e is none rose = record {
 }
 
 -- memory ran out
-pub memory_failed : (command : Option Command) (given last : List Told) (before after : ShelfSeen) (e : Ended) → e.answer ≡ Err fault.NoMemory →
-    e.message ≡ None → IsOpening command given last before after (Err e)
-memory_failed command given last before after e is none = record {
+pub memory_failed : (command : Option Command) (before after : ShelfSeen) (e : Ended) → e.answer ≡ Err fault.NoMemory →
+    e.message ≡ None → IsShutBy command before after e
+memory_failed command before after e is none = record {
   why = fault.NoMemory;
   is = is;
   shut = out_of_memory refl;
@@ -150,31 +148,31 @@ plain_usage Two how name text = refl
 plain_usage Three how name text = refl
 
 -- words that are no command, or one that answers no lines
-pub words_shut : (command : Option Command) (given last : List Told) (before after : ShelfSeen) (f : Fault) (e : Ended) → IsUnasked command f →
-    e.answer ≡ Err f → e.message ≡ None → IsOpening command given last before after (Err e)
-words_shut command given last before after fault.Usage e none is message = record {
+pub words_shut : (command : Option Command) (before after : ShelfSeen) (f : Fault) (e : Ended) → IsUnasked command f →
+    e.answer ≡ Err f → e.message ≡ None → IsShutBy command before after e
+words_shut command before after fault.Usage e none is message = record {
   why = fault.Usage;
   is = is;
   shut = no_lines refl none;
   written = plain_written command before.texts fault.Usage e plain_usage is message;
 }
-words_shut command given last before after fault.NoMemory e none is message = memory_failed command given last before after e is message
-words_shut command given last before after f e none is message = absurd none
+words_shut command before after fault.NoMemory e none is message = memory_failed command before after e is message
+words_shut command before after f e none is message = absurd none
 
 -- a command of another kind answers no lines
 pub none_asked : (command : Option Command) (c : Command) → command ≡ Some c → answers_lines c ≡ false → IfSome command (λ d. answers_lines d ≡ false)
-none_asked command c is no = subst (λ o. IfSome o (λ d. answers_lines d ≡ false)) (sym is) no
+none_asked command c is lineless = subst (λ o. IfSome o (λ d. answers_lines d ≡ false)) (sym is) lineless
 
 pub nothing_asked : (command : Option Command) → command ≡ None → IfSome command (λ d. answers_lines d ≡ false)
 nothing_asked command is = subst (λ o. IfSome o (λ d. answers_lines d ≡ false)) (sym is) tt
 
 -- no memory for a message
-pub front_opened : (c : FileCommand) (given last : List Told) (front : List ℕ) (f : Fault) (e : Ended) →
+pub front_opened : (c : FileCommand) (front : List ℕ) (f : Fault) (e : Ended) →
     IsUnread (file_command c) front f → (e.answer ≡ Err f) ⊎ ((e.answer ≡ Err fault.NoMemory) × IsOfText (Err f)) →
     ((texts : List ℕ → Option (List ℕ)) (whole : List ℕ) → AreTold (texts c.file.now) whole → front ≡ take (text_most (file_command c) Two + 1) whole →
-    IsWrittenOf (source_of (file_command c)) (linearity_of (file_command c)) texts e.answer (line_of e)) → IsOpenedFront c given last front (Err e)
-front_opened c given last front f e why (inl is) written = (f, is, why, written)
-front_opened c given last front f e why (inr is) written = (fault.NoMemory, is.0, lost refl, written)
+    IsWrittenOf (source_of (file_command c)) (linearity_of (file_command c)) texts e.answer (line_of e)) → IsShutFront c front e
+front_opened c front f e why (inl is) written = (f, is, why, written)
+front_opened c front f e why (inr is) written = (fault.NoMemory, is.0, lost refl, written)
 
 pub short_or_long : {A : Type 0} (f : Fault) → (f ≡ fault.TextTooLong) ⊎ A → (failed f ≡ failed fault.TextTooLong) ⊎ A
 short_or_long f (inl is) = inl (ap failed is)

@@ -8,16 +8,16 @@ use Rattle.cf_answer.specs.Owed.{Replier, AreReplies, Owes}
 use Rattle.cf_answer.specs.declared.fault.Fault.TheVariants as fault
 use Rattle.cf_lines.specs.Opening.{answers_lines, RepliesFor, IsUnasked}
 
-none : Flags
+abbrev none : Flags
 none = record { plain = false; stats = false }
 
-tallies : Flags
+abbrev tallies : Flags
 tallies = record { plain = true; stats = true }
 
-as_text : ReplyForm
+abbrev as_text : ReplyForm
 as_text = record { key = false; jsonl = false }
 
-as_keyed_json : ReplyForm
+abbrev as_keyed_json : ReplyForm
 as_keyed_json = record { key = true; jsonl = true }
 
 -- `run` without tallies, and `exec`, in each form

@@ -76,14 +76,21 @@ pub data IsUnread (command : Command) (front : List ℕ) (f : Fault) : Type 0 wh
   lost : f ≡ fault.NoMemory → IsUnread command front f
 
 -- what comes of as much of a text as may be read
-abbrev pub IsRead : Command → List Told → List Told → List ℕ → Result DeclaredReplier Fault → Type 0
-IsRead command given last front (Ok r) = (length front ≤ text_most command Two) × RepliesFor command (front ∷ []) given last (replier_of r)
-IsRead command given last front (Err f) = IsUnread command front f × ((f ≡ fault.TextTooLong) ⊎ (length front ≤ text_most command Two))
+abbrev pub Reads : Command → List Told → List Told → List ℕ → Result DeclaredReplier Fault → Type 0
+Reads command given last front (Ok r) = (length front ≤ text_most command Two) × RepliesFor command (front ∷ []) given last (replier_of r)
+Reads command given last front (Err f) = IsUnread command front f × ((f ≡ fault.TextTooLong) ⊎ (length front ≤ text_most command Two))
 
--- the same, with what is written of it where a text of this name begins so
-abbrev pub IsOpenedFront : FileCommand → List Told → List Told → List ℕ → Result DeclaredReplier Ended → Type 0
-IsOpenedFront c given last front (Ok r) = IsRead (file_command c) given last front (Ok r)
-IsOpenedFront c given last front (Err e) =
+pub record IsRead (command : Command) (given last : List Told) (front : List ℕ) (r : Result DeclaredReplier Fault) : Type 0 where
+  pub is : Reads command given last front r
+
+-- why nothing is opened of it, with what is written where a text of this name begins so
+abbrev pub IsShutFront : FileCommand → List ℕ → Ended → Type 0
+IsShutFront c front e =
     (f : Fault) × (e.answer ≡ Err f) × IsUnread (file_command c) front f
     × ((texts : List ℕ → Option (List ℕ)) (whole : List ℕ) → AreTold (texts c.file.now) whole → front ≡ take (text_most (file_command c) Two + 1) whole →
     IsWrittenOf (source_of (file_command c)) (linearity_of (file_command c)) texts e.answer (line_of e))
+
+-- what is opened of it, or why nothing is
+abbrev pub IsOpenedFront : FileCommand → List Told → List Told → List ℕ → Result DeclaredReplier Ended → Type 0
+IsOpenedFront c given last front (Ok r) = IsRead (file_command c) given last front (Ok r)
+IsOpenedFront c given last front (Err e) = IsShutFront c front e

@@ -57,7 +57,7 @@ fn asked<'a>(alloc: Global, words: &'a [String]) -> Result<FileCommand<'a>, Faul
 
 // The same of a command on a file.
 fn answering(command: FileCommand<'_>) -> Result<FileCommand<'_>, Fault>
-    ensures { IsAsked (Some (file_command command)) result }
+    ensures { IsAsked (Some (file_command command.entry)) result }
 {
     if answers_lines(command.kind, command.flags) {
         return Ok(command);

@@ -9,5 +9,5 @@ returns-in-Ok g c = rw c.in-Ok.ensures.0 c.open_file.ensures
 
 pub returns-in-Err : goal.returns-in-Err
 returns-in-Err g c =
-    words_shut (command_of (map string_bytes c.args.words.now)) _ _ (g.F.Shelf.seen c.args.shelf.now) _ c.in-Err.fault _ c.in-Err.ensures c.plain.ensures.answer
+    words_shut (command_of (map string_bytes c.args.words.now)) (g.F.Shelf.seen c.args.shelf.now) _ c.in-Err.fault _ c.in-Err.ensures c.plain.ensures.answer
     c.plain.ensures.message
