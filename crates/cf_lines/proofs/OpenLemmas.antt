@@ -18,7 +18,7 @@ use Rattle.cf_answer.specs.Forms.{form_of}
 use Rattle.cf_answer.specs.Limits.{text_limit, written_limit, of_target, most_of, edition_for}
 use Rattle.cf_answer.specs.Outside.{AreTold, AreTexts}
 use Rattle.cf_answer.specs.Owed.{Replier, by_target, AreReplies}
-use Rattle.cf_answer.specs.Refusals.{too_long, Refuses}
+use Rattle.cf_answer.specs.Refusals.{too_long, IsRefusedTarget, Refuses}
 use Rattle.cf_answer.specs.Steps.{IsVerdict, IsNamedRunner, replier_of}
 use Rattle.cf_answer.specs.Written.{IsOfText, IsWrittenOf, line_of, linearity_of, source_of}
 use Rattle.cf_answer.specs.declared.answerer.Replier.{Replier as DeclaredReplier}
@@ -50,6 +50,13 @@ pub text_read : (command : Command) (given last : List Told) (front : List ℕ) 
 text_read command given last front (Ok x) few h = record { is = (few, h) }
 text_read command given last front (Err f) few (inl refusal) = record { is = (bad few refusal, inr few) }
 text_read command given last front (Err f) few (inr is) = record { is = (lost is, inr few) }
+
+-- the same of a target, which is refused as it is whatever its name
+pub target_read : (form : ReplyForm) (file : List ℕ) (given last : List Told) (front : List ℕ) (r : Result DeclaredReplier Fault) →
+    length front ≤ text_most (exec form file) Two → ((name : List ℕ) (before after : List Told) →
+    IsVerdict (λ x. RepliesFor (exec form name) (front ∷ []) before after (replier_of x)) (IsRefusedTarget front) r) →
+    IsRead (exec form file) given last front r
+target_read form file given last front r few h = text_read (exec form file) given last front r few (h file given last)
 
 -- ---- files
 -- a target past the largest limit is past its own
