@@ -1,5 +1,6 @@
 //! What is handed back of the reply to a line.
-ghost use Rattle.std.specs.Prelude.{◌≡◌, false, length, nat_le, result_map};
+ghost use Rattle.std.specs.Prelude.{◌≡◌, false, length, nat_le};
+ghost use Rattle.std.specs.Result.{result_map_both};
 ghost use Rattle.cf_c.specs.Answered.{IsFilled, called_code};
 ghost use Rattle.cf_c.specs.Lines.{IsHandedBack};
 
@@ -24,7 +25,7 @@ fn hand_over(reply: &[u8], out: &mut [u8], out_size: &mut usize) -> u32
 
 /// Hands back the reply to a line, or none where memory ran out, and answers the number of it.
 pub fn hand_back(replied: Result<Vec<u8>, NoMemory>, out: &mut [u8], out_size: &mut usize) -> u32
-    ensures { IsHandedBack (result_map (λ t. t.items) replied) out.old out.new out_size.new result }
+    ensures { IsHandedBack (result_map_both (λ t. t.items) (λ f. f) replied) out.old out.new out_size.new result }
 {
     match replied {
         Ok(reply) => hand_over(&reply, out, out_size),
