@@ -146,6 +146,10 @@ def try_threads(shared: Path, _: Room) -> Iterator[Check]:
     with ThreadPoolExecutor(THREADS) as pool:
         seen = [it.out for it in pool.map(lambda line: answer(line), lines)]
     yield equal("library, threads", (seen == replies, True))
+    programs = [package(shared).Opened(["run", "file"], {"file": source}) for _ in range(THREADS)]
+    with ThreadPoolExecutor(THREADS) as pool:
+        each = pool.map(lambda program: [program.line(line.rstrip()).out for line in lines], programs)
+    yield equal("library, threads, a program each", (all(seen == replies for seen in each), True))
 
 
 def raised(what, kind: type[BaseException]) -> object:
