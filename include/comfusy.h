@@ -70,8 +70,8 @@ typedef struct {
 
 /* Reads a program once: the words are `run FILE` or `exec FILE` with their flags, but not `--stats`, whose tallies stand behind all replies.
  *
- * COMFUSY_DONE: the program is open. Any other status: it is closed, and is the one with which `comfusy` would end on these words and files whatever the
- * input; `err` and `*err_size` are as there. COMFUSY_USAGE also tells of another command. A program that was open before is closed first.
+ * COMFUSY_DONE: the program is open. With any other status it is closed, and this is the status with which `comfusy` would end on these words and files
+ * whatever the input; `err` and `*err_size` are as there. COMFUSY_USAGE also tells of another command. A program that was open before is closed first.
  *
  * What each pointer must be, beside what `comfusy` says of those that it has too:
  *   - `program` is not null, is aligned as its type is, and points to a program that is COMFUSY_CLOSED or that one of these three calls left;

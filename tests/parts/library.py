@@ -32,13 +32,14 @@ from harness.rows import Row, rows_of
 
 from . import cases, many_lines, tables
 
-FLAGS = "-std=c11", "-Wall", "-Wextra", "-Werror", "-O1", "-g", f"-I{ROOT / 'include'}"
+FLAGS = "-std=c11", "-Wall", "-Wextra", "-Werror", "-O1", "-g", "-pthread", f"-I{ROOT / 'include'}"
 WRAPPED = "-Wl,--wrap=malloc,--wrap=realloc,--wrap=free"
 LIBRARY = ROOT / "tests/library"
 PYTHON = ROOT / "python"
 PAGE = ROOT / "docs/LIBRARY.md"
 REFUSED = ("run", "even"), ("compile", "seconds"), ("check", "even"), ("pre", "seconds"), ("prove", "even")
 OPENED = ("run", "even"), ("run", "seconds"), ("exec", "even")
+HELGRIND = "valgrind", "--tool=helgrind", "-q", "--error-exitcode=99"
 CALLS, THREADS = 200, 8
 
 
@@ -46,7 +47,7 @@ def built(folder: Path) -> dict[str, Path]:
     """The programs and the shared library in this folder, made of the archive."""
     archive = Path(subprocess.run([ROOT / "tools/library"], stdout=subprocess.PIPE, text=True, check=True).stdout.strip())
     subprocess.run([ROOT / "tools/library", "--shared", folder / "libcomfusy.so"], check=True)
-    made = {name: folder / name for name in ("drive", "lines", "refuse", "refuse_lines")}
+    made = {name: folder / name for name in ("drive", "lines", "refuse", "refuse_lines", "threads")}
     for name, program in made.items():
         wrapped = [WRAPPED] if name.startswith("refuse") else []
         subprocess.run(["gcc", *FLAGS, "-o", program, LIBRARY / f"{name}.c", archive, *wrapped], check=True)
@@ -150,6 +151,12 @@ def try_threads(shared: Path, _: Room) -> Iterator[Check]:
     with ThreadPoolExecutor(THREADS) as pool:
         each = pool.map(lambda program: [program.line(line.rstrip()).out for line in lines], programs)
     yield equal("library, threads, a program each", (all(seen == replies for seen in each), True))
+
+
+def try_own(threads: Path, tool: Sequence[str], room: Room) -> Iterator[Check]:
+    """Threads of C that have a program each, alone or under a tool that sees whether they touch what another one has."""
+    ran = subprocess.run([*tool, threads, "run", examples.source("even")], capture_output=True, cwd=room.folder, check=False)
+    yield equal(" ".join(["library, a program each", *tool[:2]]), (ran.returncode, 0), (ran.stderr, b""))
 
 
 def raised(what, kind: type[BaseException]) -> object:
@@ -294,7 +301,10 @@ def jobs() -> Iterator[Job]:
         if shutil.which("valgrind"):
             yield Job(f"library, valgrind, lines of {command} {name}", partial(try_valgrind, made["lines"], command, name))
     yield Job("library, many lines", partial(try_many, made["lines"]))
-    if shutil.which("valgrind") is None:
+    yield Job("library, a program each", partial(try_own, made["threads"], ()))
+    if shutil.which("valgrind"):
+        yield Job("library, a program each, helgrind", partial(try_own, made["threads"], HELGRIND))
+    else:
         yield Job("library, valgrind", partial(skipped, "valgrind"))
     for name, trial in ("threads", try_threads), ("opened", try_opened), ("package", try_package), ("module", try_module):
         yield Job(f"library, {name}", partial(trial, made["shared"]))
