@@ -1,5 +1,6 @@
 -- From what was read of a file to what is opened.
-use Rattle.std.proofs.Common.{◌≡◌, inl, inr, sym, subst, ap, refl, ℕ, ◌+◌, ◌≤◌, ◌<◌, true, false, not, List, [], ◌∷◌, length, take, Option, Some, None, arith, rules}
+use Rattle.std.proofs.Common.{◌≡◌, inl, inr, sym, subst, ap, refl, ℕ, ◌+◌, ◌≤◌, ◌<◌, true, false, not, List, [], ◌∷◌, length, take, Option, Some}
+use Rattle.std.proofs.Common.{None, arith, rules}
 use Rattle.std.specs.Prelude.{◌⊎◌, Result, Ok, Err, IfSome, Contains}
 use Rattle.cf_io.specs.Causes.{Rose}
 use Rattle.cf_io.specs.Seen.{ShelfSeen}
