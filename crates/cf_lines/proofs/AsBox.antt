@@ -13,8 +13,12 @@ use Rattle.cf_lines.specs.contracts.held.Held as held
 use Rattle.cf_lines.specs.contracts.parts.Parts as parts
 
 abbrev pub E : Bx
-E = record { row = replier.the_row; laws = replier_laws.the_row_laws; al =
-    record { row = heap.the_row; laws = heap_laws.the_row_laws; g = ghosts; d = impl [] tnil dnil; drops = impl [] tnil dnil } }
+E = record {
+  row = replier.the_row;
+  laws = replier_laws.the_row_laws;
+  al =
+      record { row = heap.the_row; laws = heap_laws.the_row_laws; g = ghosts; d = impl [] tnil dnil; drops = impl [] tnil dnil };
+}
 
 abbrev pub Held : RattleType
 Held = held.the_row

@@ -73,7 +73,7 @@ module _ {M : Type 1} {𝓤 : Ura M} (𝓛 : Logic 𝓤) (at_mem : Memory → SP
       let d = held at true a (Some x) in let Post = W.post (bound d vs) in
       qed 𝓛 ((‵ ftrue ⊛ ‵ (fsep (Held.own_val d vs) ftrue)) ∷ raw (emp 𝓤) ∷ []) ∵ split ! $ drop ! $ fsplit ! $ held_out ! d vs (λ h ws fits.
       in_a_block ! at (λ p. box_owns (ghosts.dealloc_token a) replier.the_row p x)
-          (fst∗ 𝓤 (never 𝓤) (sem 𝓛 (ghosts.dealloc_token a (bare (layout replier.the_row)) null_ptr))) (λ b o e.
+      (fst∗ 𝓤 (never 𝓤) (sem 𝓛 (ghosts.dealloc_token a (bare (layout replier.the_row)) null_ptr))) (λ b o e.
       let v : D E = record { ptr = block_ptr b o; alloc = a; value = x } in let w = box.word E h b o in let ok = box_typed E h b o fits in
       let made : Pt.Denot = record { ptr = block_ptr b o; alloc = a; value = x } in let out : Val = live 1 (vcons w vnil) in
       let good : Good (layout Out) out = (and_tt _ ok.0, (record { fits = lit< tt }, (ok.1, tt))) in
@@ -81,7 +81,7 @@ module _ {M : Type 1} {𝓤 : Ura M} (𝓛 : Logic 𝓤) (at_mem : Memory → SP
       use1 𝓛 (‵ (Out.own_val (Some made) (out ∷ []))) (Some-of 𝓛 Pt made w) $ move ! (1 ∷ 2 ∷ []) $ drop ! $ drop ! $
       let Γ : List (Item 𝓤) = ‵ (Out.own_val (Some made) (out ∷ [])) ∷ [] in
       by ! (subst (λ (us : List Val). ent 𝓤 (types.Kit.⋆ 𝓛 Γ) (WpFn 𝓤 H 𝓣.C 𝓣.Λ code.function (us ++ []) Post))
-          (sym (ws ∙ ap (λ (p : Ptr). word true p h ∷ []) e))
+      (sym (ws ∙ ap (λ (p : Ptr). word true p h ∷ []) e))
       (qed 𝓛 Γ ∵ enter ! 𝓣.C 𝓣.Λ code.function (word true (block_ptr b o) h ∷ []) _ $
       alloc_all ! (λ ls. pass_all ! refl (typed true (block_ptr b o) h fits, tt) $
       sets ! (of_opd ! (get_in ! (fld ! refl (stop !)) (sub ! 0 refl (whole !)))) refl (tt, tt) $
@@ -121,5 +121,5 @@ into_parts_spec 𝓤 𝓛 𝓜 𝓡 wired =
     let 𝓣 : Tables 𝓤 𝓛.H = tables_of 𝓤 𝓛.H 𝓜 (tables 𝓤 𝓛.H 𝓜 𝓡 𝓡.env) in
     entered 𝓤 𝓛.H (triple_of 𝓛 F.signature (F.spec 𝓛 𝓜.mem 𝓡.returns)) 𝓣.C 𝓣.Λ #self code.function (code.unfolded 𝓤 𝓛.H 𝓜 𝓡 wired)
     (walk_Meets 𝓛 F.ended stayed (Goes-dropped 𝓛 0 From yes (λ κs x f. refl), tt) (F.clauses 𝓛 𝓜.mem 𝓡.returns) (WpFn 𝓤 𝓛.H 𝓣.C 𝓣.Λ code.function)
-        (WpFn-mono 𝓤 𝓛.H 𝓛.laws 𝓣 code.function)
+    (WpFn-mono 𝓤 𝓛.H 𝓛.laws 𝓣 code.function)
     (λ z. walk_at 𝓛 𝓜.mem 𝓡.returns 𝓣 z.0.3.0.at z.0.3.0.is_open z.0.3.0.alloc z.0.3.0.kept z.0.4.0))
