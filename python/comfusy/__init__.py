@@ -7,7 +7,8 @@
     >>> even.check()
     ('choose 1: no outputs for a = 1, b = 0', 'choose 1: two outputs for a = -2, b = 0: -1 and 0')
 
-The package calls the library `libcomfusy.so` by ctypes. `call` is the one call that it makes: the program on words, files and an input in memory.
+The package calls the library `libcomfusy.so` by ctypes. `call` is the program on words, files and an input in memory; an `Opened` is a program that was read
+once and answers lines one by one.
 """
 
 from .faults import (
@@ -22,7 +23,7 @@ from .faults import (
     SyntaxFault,
     TypeFault,
 )
-from .library import Answer, call
+from .library import Answer, Opened, call
 from .program import Program, Reply, Value, compile, replies, value_of
 
 __all__ = [
@@ -33,6 +34,7 @@ __all__ = [
     "NoSolution",
     "NotAccepted",
     "NotLinear",
+    "Opened",
     "Overflow",
     "Program",
     "Reply",

@@ -3,10 +3,11 @@
 from __future__ import annotations
 
 import re
+from functools import cached_property
 from typing import FrozenSet, Iterable, List, Optional, Tuple, Union
 
 from .faults import NoSolution, NotLinear, Overflow, fault_of
-from .library import Text, call
+from .library import Answer, Opened, Text, call
 
 Value = Union[int, bool, FrozenSet[int]]
 Reply = Union[Tuple[Value, ...], NoSolution, Overflow, ValueError]
@@ -21,7 +22,7 @@ class Program:
     """A program that was accepted: its source, and the target that it is compiled to.
 
     The target is None for a source that is linear only where the numbers of a line are known. Such a program is solved anew on each line, and has no
-    `pre` and no `check`.
+    `pre` and no `check`. What answers the lines is read once, and kept while the program is.
     """
 
     def __init__(self, source: Text, target: Optional[str]) -> None:
@@ -33,17 +34,30 @@ class Program:
 
         Raises NoSolution, Overflow, or ValueError where the line is no input of the program.
         """
-        if "\n" in line:
-            raise ValueError("one line, without a line feed")
-        (reply,) = self.run_all([line])
+        reply = self._reply(line)
         if isinstance(reply, Exception):
             raise reply
         return reply
 
     def run_all(self, lines: Iterable[str]) -> List[Reply]:
         """The replies to the lines, each as a tuple of values or as the exception that `run` raises."""
-        given = "".join(f"{line}\n" for line in lines)
-        return replies(_done("run", self.source, given) if self.target is None else _done("exec", self.target, given))
+        return [self._reply(line) for line in lines]
+
+    def _reply(self, line: str) -> Reply:
+        if "\n" in line:
+            return ValueError("one line, without a line feed")
+        return _reply_of(_text_of(self._opened.line(line)).rstrip("\n"))
+
+    @cached_property
+    def _opened(self) -> Opened:
+        """What answers the lines, which is read at the first."""
+        command, text = ("run", self.source) if self.target is None else ("exec", self.target)
+        opened = Opened([command, _FILE], {_FILE: text})
+        _text_of(opened.answer)
+        return opened
+
+    def __reduce__(self) -> Tuple[object, ...]:
+        return Program, (self.source, self.target)
 
     def pre(self) -> Tuple[str, ...]:
         """For each choose in order the lines of its precondition."""
@@ -88,8 +102,12 @@ def _reply_of(line: str) -> Reply:
     return tuple(value_of(word) for word in _WORD.findall(line))
 
 
-def _done(command: str, text: Text, given: Text = b"") -> str:
-    answer = call([command, _FILE], {_FILE: text}, given)
+def _done(command: str, text: Text) -> str:
+    return _text_of(call([command, _FILE], {_FILE: text}))
+
+
+def _text_of(answer: Answer) -> str:
+    """What was written, where it is done."""
     if answer.status:
         raise fault_of(answer)
     return answer.out.decode()

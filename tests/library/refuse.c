@@ -1,61 +1,9 @@
 /* One call after the other, in each of which one more allocation is refused, until none is: `refuse NAME FILE [INPUT]`, NAME being the command.
    It writes how many calls there were. The status is 0 where each call answered COMFUSY_NO_MEMORY, or what the undisturbed call answers, gave back all its
-   memory, and wrote no byte behind its buffers. It is linked with --wrap=malloc,--wrap=realloc,--wrap=free. */
-#include "comfusy.h"
-
-#include <stdio.h>
-#include <stdlib.h>
-#include <string.h>
-
-void *__real_malloc(size_t size);
-void *__real_realloc(void *at, size_t size);
-void __real_free(void *at);
-
-static long asked, refused, held;
-
-static int is_refused(void) {
-  return ++asked == refused;
-}
-
-void *__wrap_malloc(size_t size) {
-  void *at = is_refused() ? NULL : __real_malloc(size);
-  held += at != NULL;
-  return at;
-}
-
-void *__wrap_realloc(void *old, size_t size) {
-  void *at = is_refused() ? NULL : __real_realloc(old, size);
-  held += at != NULL && old == NULL;
-  return at;
-}
-
-void __wrap_free(void *at) {
-  held -= at != NULL;
-  __real_free(at);
-}
-
-enum { ROOM = 1 << 20, BEHIND = 16, MARK = 0xa5 };
+   memory, and wrote no byte behind its buffers. */
+#include "counted.h"
 
 static uint8_t out[ROOM + BEHIND], err[ROOM + BEHIND], wanted[ROOM], text[ROOM], input[ROOM];
-
-static size_t read_file(const char *name, uint8_t *into) {
-  FILE *stream = fopen(name, "rb");
-  if (stream == NULL) {
-    exit(97);
-  }
-  size_t size = fread(into, 1, ROOM, stream);
-  fclose(stream);
-  return size;
-}
-
-static int is_marked(const uint8_t *bytes) {
-  for (int i = 0; i < BEHIND; i++) {
-    if (bytes[ROOM + i] != MARK) {
-      return 0;
-    }
-  }
-  return 1;
-}
 
 int main(int count, char **given) {
   size_t text_size = read_file(given[2], text), input_size = count > 3 ? read_file(given[3], input) : 0;

@@ -36,6 +36,7 @@ from .samples import try_samples
 
 ROWS_OF_A_JOB = 50
 NOT_LINEAR = 8
+INPUT_LONG = b"11"
 TALLIES = b"# fold 0\n# drop-needs 0\n# drop-arms 0\n# drop-lets 0\n"
 OTHER_COMMANDS = ("compile", "file"), ("pre", "file"), ("check", "file"), ("prove", "file"), ("verify", "file", "missing")
 ON_A_SOURCE = "compile", "pre", "check", "prove", "verify", "run"
@@ -142,6 +143,11 @@ def trial_of(row: Row) -> Callable[[Row, Room], Iterator[Check]]:
         return try_refused
     of_four = try_steps if row.table.startswith("steps") else partial(try_text, "exec" if row.table.startswith("targets") else "run")
     return {2: try_rule, 3: try_written, 4: of_four, 5: try_late}.get(len(row.columns), no_row)
+
+
+def is_of_replies(row: Row) -> bool:
+    """Whether a row is of what `run` or `exec` does with an input of any length."""
+    return len(row.columns) != 3 and not row.table.startswith(("words", "verdicts", "refused", "steps")) and row.columns[0] != INPUT_LONG
 
 
 def try_rows(rows: list[Row], room: Room) -> Checks:

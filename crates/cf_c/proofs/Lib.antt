@@ -1,3 +1,5 @@
 mod AnsweredExamples
 mod CallLemmas
+mod LineExamples
+mod LineLemmas
 mod WordLemmas

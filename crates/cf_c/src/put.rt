@@ -1,5 +1,5 @@
 //! What is handed back through the buffers of the caller.
-ghost use Rattle.std.specs.Prelude.{◌≡◌, ◌++◌, length, take, drop};
+ghost use Rattle.std.specs.Prelude.{◌≡◌, ◌++◌, length, take, drop, nat_le};
 ghost use Rattle.cf_c.specs.Answered.{IsFilled, fit, fitting};
 
 // Copies as many first bytes as fit, and says how many.
@@ -20,9 +20,16 @@ pub fn put(held: &[u8], room: &mut [u8]) -> usize
     held.len()
 }
 
+/// Whether this is within a buffer.
+pub fn fits(held: &[u8], room: &[u8]) -> bool
+    ensures { result ≡ nat_le (length held.now) (length room.now) }
+{
+    held.len() <= room.len()
+}
+
 /// Whether both are within their buffers.
 pub fn both_fit(said: &[u8], out: &[u8], told: &[u8], err: &[u8]) -> bool
     ensures { result ≡ fit said.now out.now told.now err.now }
 {
-    said.len() <= out.len() && told.len() <= err.len()
+    fits(said, out) && fits(told, err)
 }

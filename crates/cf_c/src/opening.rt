@@ -1,0 +1,102 @@
+//! Opening a program that C keeps.
+ghost use Rattle.std.specs.Prelude.{◌≡◌, None, map, string_bytes, IfOk, OnErr, IsErrOf};
+ghost use Rattle.cf_c.specs.Answered.{IsNoText, bytes_of};
+ghost use Rattle.cf_c.specs.Lines.{IsOpenedBy, ended_by, held_by, kept_by, status_by};
+ghost use Rattle.cf_memory.specs.Files.{fresh_files};
+ghost use Rattle.cf_memory.specs.Held.{growing_seen};
+ghost use Rattle.cf_words.specs.Words.{command_of};
+
+use crate::call::usual_passes;
+use crate::words::{Uncalled, Word, texts_of};
+use cf_answer::{Replier, Status, status_of, tell};
+use cf_lines::{Held, open_program};
+use cf_memory::{File, Files, Growing};
+use cf_tree::NoMemory;
+use std::alloc::Global;
+
+/// What became of words that were to be opened.
+#[derive(Drop)]
+pub enum Opened {
+    /// What answers their lines.
+    Program(Box<Replier>),
+    /// It ended with this status, of which was told.
+    Shut(Status),
+}
+
+// Opens these texts as words. Where memory runs out before, nothing is told.
+fn open_on(
+    alloc: Global,
+    words: &[String],
+    files: &[File<'_>],
+    err: &mut Growing,
+) -> Result<Opened, NoMemory>
+    ensures opened { IfOk result (IsOpenedBy (command_of (map string_bytes words.now)) (fresh_files files.now) (growing_seen err.old) (growing_seen err.new)) }
+    ensures err { OnErr result (err.new ≡ err.old) }
+{
+    let mut passes = usual_passes(alloc)?;
+    let mut shelf = Files::new(files);
+    match open_program(alloc, words, &mut shelf, &mut passes) {
+        Ok(replier) => {
+            let program = Box::new(alloc, replier)?;
+            Ok(Opened::Program(program))
+        }
+        Err(ended) => {
+            let _ = tell(err, &ended);
+            Ok(Opened::Shut(status_of(&ended.answer)))
+        }
+    }
+}
+
+/// Opens these words, with the files that they may name.
+///
+/// # Errors
+/// Where a word is no UTF-8, or where memory runs out before anything is told.
+pub fn open_words(
+    alloc: Global,
+    words: &[Word<'_>],
+    files: &[File<'_>],
+    err: &mut Growing,
+) -> Result<Opened, Uncalled>
+    ensures opened { IfOk result (IsOpenedBy (command_of (bytes_of words.now)) (fresh_files files.now) (growing_seen err.old) (growing_seen err.new)) }
+    ensures err { OnErr result (err.new ≡ err.old) }
+    ensures no_text { IsErrOf result Uncalled.NoText → IsNoText (bytes_of words.now) }
+{
+    match texts_of(alloc, words) {
+        Ok(texts) => match open_on(alloc, &texts, files, err) {
+            Ok(opened) => Ok(opened),
+            Err(NoMemory) => Err(Uncalled::NoMemory),
+        },
+        Err(fault) => Err(fault),
+    }
+}
+
+// Keeps what was opened where nothing is kept, and says with which status it ended.
+fn keep_opened(program: &mut Held, opened: Opened) -> Status
+    requires { program.old.kept ≡ None }
+    ensures status { result ≡ status_by opened }
+    ensures kept { program.new.kept ≡ held_by opened }
+{
+    match opened {
+        Opened::Program(replier) => {
+            program.keep(replier);
+            Status::Done
+        }
+        Opened::Shut(status) => status,
+    }
+}
+
+/// Keeps what was opened, if anything was, and says how it ended. What was kept before is given back.
+pub fn keep(
+    alloc: Global,
+    program: &mut Held,
+    opened: Result<Opened, Uncalled>,
+) -> Result<Status, Uncalled>
+    ensures ended { result ≡ ended_by opened }
+    ensures kept { program.new.kept ≡ kept_by opened }
+{
+    drop(program.take(alloc));
+    match opened {
+        Ok(opened) => Ok(keep_opened(program, opened)),
+        Err(fault) => Err(fault),
+    }
+}

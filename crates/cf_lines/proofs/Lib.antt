@@ -1,0 +1,5 @@
+mod AsBox
+mod HeldSteps
+mod OpenLemmas
+mod OpeningExamples
+mod ReplyLemmas
