@@ -1,5 +1,5 @@
 -- What is handed back of a reply, worked out.
-use Rattle.std.proofs.Common.{◌≡◌, ◌⊎◌, inl, inr, refl, ℕ, List, [], ◌∷◌, Option, Some, None, Result, Ok, Err}
+use Rattle.std.proofs.Common.{◌≡◌, ◌⊎◌, inl, inr, refl, ℕ, List, [], ◌∷◌, Some, None, Ok, Err}
 use Rattle.cf_answer.specs.declared.answerer.Replier.{Replier}
 use Rattle.cf_answer.specs.declared.status.Status.TheVariants.{NotLinear}
 use Rattle.cf_c.specs.Lines.{ended_by, kept_by, IsHandedBack, LineEnded, replied, unreplied, closed, IsLineAnswered}

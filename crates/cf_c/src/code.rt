@@ -1,5 +1,6 @@
 //! The number that a call answers.
 ghost use Rattle.std.specs.Prelude.{◌≡◌};
+ghost use Rattle.cf_answer.specs.Statuses.{code_of};
 ghost use Rattle.cf_c.specs.Answered.{called_code, ended_code, has_failed as the_has_failed};
 ghost use Rattle.cf_memory.specs.Held.{growing_seen};
 
@@ -13,6 +14,13 @@ pub const TOO_SMALL: u32 = 1;
 /// Memory ran out.
 pub const NO_MEMORY: u32 = 12;
 
+/// The number of a status.
+pub fn number_of(status: Status) -> u32
+    ensures { result ≡ code_of status }
+{
+    u32::from(status.code())
+}
+
 // The number of a call that ended with this status. What is written is held in memory: it is lost only where memory runs out.
 fn code_of_called(status: Status, has_failed: bool, is_whole: bool) -> u32
     ensures { result ≡ called_code status has_failed is_whole }
@@ -24,7 +32,7 @@ fn code_of_called(status: Status, has_failed: bool, is_whole: bool) -> u32
         Status::Output => NO_MEMORY,
         _ => {
             if is_whole {
-                u32::from(status.code())
+                number_of(status)
             } else {
                 TOO_SMALL
             }
@@ -46,7 +54,7 @@ pub fn code_for(ended: Result<Status, Uncalled>, has_failed: bool, is_whole: boo
 {
     match ended {
         Ok(status) => code_of_called(status, has_failed, is_whole),
-        Err(Uncalled::NoText) => u32::from(Status::Usage.code()),
+        Err(Uncalled::NoText) => number_of(Status::Usage),
         Err(Uncalled::NoMemory) => NO_MEMORY,
     }
 }

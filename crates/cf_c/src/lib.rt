@@ -16,7 +16,7 @@ use call::call;
 use cf_lines::{Held, reply_to};
 use cf_memory::{File, Growing};
 use cf_top::Status;
-use code::{code_for, has_failed};
+use code::{code_for, has_failed, number_of};
 use line::hand_back;
 use opening::{keep, open_words};
 use put::{both_fit, fits, put};
@@ -113,7 +113,7 @@ pub extern "C" fn comfusy_line(
         }
         None => {
             *out_size = 0;
-            u32::from(Status::Usage.code())
+            number_of(Status::Usage)
         }
     }
 }

@@ -4,7 +4,7 @@ ghost use Rattle.std.specs.Result.{result_map_both};
 ghost use Rattle.cf_c.specs.Answered.{IsFilled, called_code};
 ghost use Rattle.cf_c.specs.Lines.{IsHandedBack};
 
-use crate::code::{NO_MEMORY, TOO_SMALL};
+use crate::code::{NO_MEMORY, TOO_SMALL, number_of};
 use crate::put::{fits, put};
 use cf_top::Status;
 use cf_tree::NoMemory;
@@ -17,7 +17,7 @@ fn hand_over(reply: &[u8], out: &mut [u8], out_size: &mut usize) -> u32
     let is_whole = fits(reply, out);
     *out_size = put(reply, out);
     if is_whole {
-        u32::from(Status::Done.code())
+        number_of(Status::Done)
     } else {
         TOO_SMALL
     }

@@ -1,14 +1,21 @@
 //! Opening a program that C keeps.
-ghost use Rattle.std.specs.Prelude.{◌≡◌, None, map, string_bytes, IfOk, OnErr, IsErrOf};
+ghost use Rattle.std.specs.Prelude.{◌≡◌, List, Option, Some, None, map, string_bytes, IfOk, OnErr, IsErrOf};
+ghost use Rattle.cf_answer.specs.Statuses.{status_of as the_status_of};
+ghost use Rattle.cf_answer.specs.Written.{line_of};
 ghost use Rattle.cf_c.specs.Answered.{IsNoText, bytes_of};
 ghost use Rattle.cf_c.specs.Lines.{IsOpenedBy, ended_by, held_by, kept_by, status_by};
+ghost use Rattle.cf_io.specs.Seen.{ShelfSeen};
+ghost use Rattle.cf_lines.specs.Opening.{IsOpening};
 ghost use Rattle.cf_memory.specs.Files.{fresh_files};
 ghost use Rattle.cf_memory.specs.Held.{growing_seen};
+ghost use Rattle.cf_pass.specs.Passes.{Told};
+ghost use Rattle.cf_top.specs.Top.{IsTold};
+ghost use Rattle.cf_words.specs.Commands.{Command};
 ghost use Rattle.cf_words.specs.Words.{command_of};
 
 use crate::call::usual_passes;
 use crate::words::{Uncalled, Word, texts_of};
-use cf_answer::{Replier, Status, status_of, tell};
+use cf_answer::{Ended, Replier, Status, status_of, tell};
 use cf_lines::{Held, open_program};
 use cf_memory::{File, Files, Growing};
 use cf_tree::NoMemory;
@@ -35,16 +42,41 @@ fn open_on(
 {
     let mut passes = usual_passes(alloc)?;
     let mut shelf = Files::new(files);
-    match open_program(alloc, words, &mut shelf, &mut passes) {
-        Ok(replier) => {
-            let program = Box::new(alloc, replier)?;
-            Ok(Opened::Program(program))
-        }
-        Err(ended) => {
-            let _ = tell(err, &ended);
-            Ok(Opened::Shut(status_of(&ended.answer)))
-        }
+    let opening = open_program(alloc, words, &mut shelf, &mut passes);
+    conclude(alloc, opening, err)
+}
+
+// What became of a program that was to be opened; of one that is not, this is told.
+fn conclude(
+    alloc: Global,
+    opening: Result<Replier, Ended>,
+    err: &mut Growing,
+) -> Result<Opened, NoMemory>
+    ensures opened { (command : Option Command) (given last : List Told) (shelf after : ShelfSeen) → IsOpening command given last shelf after opening →
+        IfOk result (IsOpenedBy command shelf (growing_seen err.old) (growing_seen err.new)) }
+    ensures err { OnErr result (err.new ≡ err.old) }
+{
+    match opening {
+        Ok(replier) => boxed(alloc, replier),
+        Err(ended) => Ok(Opened::Shut(shut(err, ended))),
     }
+}
+
+// What answers lines, in a box.
+fn boxed(alloc: Global, replier: Replier) -> Result<Opened, NoMemory>
+    ensures { IfOk result (λ o. held_by o ≡ Some replier) }
+{
+    let program = Box::new(alloc, replier)?;
+    Ok(Opened::Program(program))
+}
+
+// Tells how it ended, and answers with which status.
+fn shut(err: &mut Growing, ended: Ended) -> Status
+    ensures status { result ≡ the_status_of ended.answer }
+    ensures told { IsTold (growing_seen err.old) (growing_seen err.new) (line_of ended) }
+{
+    let _ = tell(err, &ended);
+    status_of(&ended.answer)
 }
 
 /// Opens these words, with the files that they may name.

@@ -21,10 +21,10 @@ pub fn put(held: &[u8], room: &mut [u8]) -> usize
 }
 
 /// Whether this is within a buffer.
-pub fn fits(held: &[u8], room: &[u8]) -> bool
-    ensures { result ≡ nat_le (length held.now) (length room.now) }
+pub fn fits(bytes: &[u8], room: &[u8]) -> bool
+    ensures { result ≡ nat_le (length bytes.now) (length room.now) }
 {
-    held.len() <= room.len()
+    bytes.len() <= room.len()
 }
 
 /// Whether both are within their buffers.
