@@ -12,16 +12,6 @@ use cf_top::{Status, comfusy};
 use cf_tree::NoMemory;
 use std::alloc::Global;
 
-/// The passes that `main` has.
-pub fn usual_passes(alloc: Global) -> Result<Vec<Box<dyn Pass>>, NoMemory> {
-    let mut passes: Vec<Box<dyn Pass>> = Vec::new(alloc);
-    passes.push(Box::new(alloc, Fold::new())?)?;
-    passes.push(Box::new(alloc, DropNeeds::new())?)?;
-    passes.push(Box::new(alloc, DropArms::new())?)?;
-    passes.push(Box::new(alloc, DropLets::new())?)?;
-    Ok(passes)
-}
-
 // Calls the program on these texts as words. Where memory runs out before, nothing is written.
 fn call_on(
     alloc: Global,
@@ -37,7 +27,11 @@ fn call_on(
     ensures out { OnErr result (out.new ≡ out.old) }
     ensures err { OnErr result (err.new ≡ err.old) }
 {
-    let passes = usual_passes(alloc)?;
+    let mut passes: Vec<Box<dyn Pass>> = Vec::new(alloc);
+    passes.push(Box::new(alloc, Fold::new())?)?;
+    passes.push(Box::new(alloc, DropNeeds::new())?)?;
+    passes.push(Box::new(alloc, DropArms::new())?)?;
+    passes.push(Box::new(alloc, DropLets::new())?)?;
     let mut shelf = Files::new(files);
     let mut source = TextSource::new(input);
     Ok(comfusy(alloc, words, &mut shelf, &mut source, out, err, passes))

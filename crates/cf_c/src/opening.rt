@@ -13,11 +13,11 @@ ghost use Rattle.cf_top.specs.Top.{IsTold};
 ghost use Rattle.cf_words.specs.Commands.{Command};
 ghost use Rattle.cf_words.specs.Words.{command_of};
 
-use crate::call::usual_passes;
 use crate::words::{Uncalled, Word, texts_of};
 use cf_answer::{Ended, Replier, Status, status_of, tell};
 use cf_lines::{Held, open_program};
 use cf_memory::{File, Files, Growing};
+use cf_pass::{DropArms, DropLets, DropNeeds, Fold, Pass};
 use cf_tree::NoMemory;
 use std::alloc::Global;
 
@@ -40,7 +40,26 @@ fn open_on(
     ensures opened { IfOk result (IsOpenedBy (command_of (map string_bytes words.now)) (fresh_files files.now) (growing_seen err.old) (growing_seen err.new)) }
     ensures err { OnErr result (err.new ≡ err.old) }
 {
-    let mut passes = usual_passes(alloc)?;
+    let mut passes: Vec<Box<dyn Pass>> = Vec::new(alloc);
+    passes.push(Box::new(alloc, Fold::new())?)?;
+    passes.push(Box::new(alloc, DropNeeds::new())?)?;
+    passes.push(Box::new(alloc, DropArms::new())?)?;
+    passes.push(Box::new(alloc, DropLets::new())?)?;
+    open_by(alloc, words, files, passes, err)
+}
+
+// Opens these texts as words, with these passes.
+fn open_by(
+    alloc: Global,
+    words: &[String],
+    files: &[File<'_>],
+    passes: Vec<Box<dyn Pass>>,
+    err: &mut Growing,
+) -> Result<Opened, NoMemory>
+    ensures opened { IfOk result (IsOpenedBy (command_of (map string_bytes words.now)) (fresh_files files.now) (growing_seen err.old) (growing_seen err.new)) }
+    ensures err { OnErr result (err.new ≡ err.old) }
+{
+    let mut passes = passes;
     let mut shelf = Files::new(files);
     let opening = open_program(alloc, words, &mut shelf, &mut passes);
     conclude(alloc, opening, err)
