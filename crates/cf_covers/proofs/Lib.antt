@@ -1,0 +1,3 @@
+mod Examples
+pub mod InsideLaws
+pub mod CoverLaws

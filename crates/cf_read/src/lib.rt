@@ -1,0 +1,7 @@
+//! Relations as problems of integer rows.
+#![tactic(auto)]
+
+mod conjunctions;
+mod reading;
+
+pub use crate::reading::{Question, read};
