@@ -1,0 +1,4 @@
+pub mod PieceLaws
+pub mod NameLaws
+pub mod CommentExamples
+pub mod NameExamples

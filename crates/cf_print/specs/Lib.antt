@@ -1,0 +1,5 @@
+pub mod Pieces
+pub mod Names
+pub mod Words
+pub mod Helpers
+pub mod Sources

@@ -1,0 +1,7 @@
+use Rattle.std.proofs.Common.{◌≡◌, ◌++◌, drop}
+use Rattle.cf_print_line.specs.Layout.{declared_lines}
+use Rattle.cf_print_line.proofs.giving.put_declared.Given as goal
+
+abbrev pub invariant-loop-name : goal.invariant-loop-name
+invariant-loop-name l =
+    l.out.items ++ declared_lines l.depth (drop l.name-index l.names) l.left ≡ l.fn.out.items ++ declared_lines l.depth l.names l.bases

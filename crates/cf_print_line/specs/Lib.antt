@@ -1,0 +1,4 @@
+pub mod Layout
+pub mod Heads
+pub mod Called
+pub mod Patterns
