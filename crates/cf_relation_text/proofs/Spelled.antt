@@ -57,7 +57,8 @@ rank_most Unary = omega arith
 further_in : (i o n : ℕ) → o ≤ i → 2 + i ≤ n → 2 + o ≤ n
 further_in i o n h k = omega (arith, h, k)
 
-placed_says : (outer inner : Tier) (Is : RawTree → Type 0) (text : List ℕ) → ((t : RawTree) → Is t → 2 + rank inner ≤ rank_of (tier_of t)) → Says (Some Is) text →
+placed_says : (outer inner : Tier) (Is : RawTree → Type 0) (text : List ℕ) → ((t : RawTree) → Is t → 2 + rank inner ≤ rank_of (tier_of t)) →
+    Says (Some Is) text →
     Says (In outer (Placed outer inner Is)) (part outer inner text)
 placed_says outer inner Is text fits s = by (is_looser inner outer) refl
   where
@@ -252,7 +253,8 @@ term_says : (names : List (List ℕ)) (a : TermTree) → HasTermSpelling names a
 term_says names (term_lit k) h = number_says k h
 term_says names (term_var x) h = name_says (name_of names x) h
 term_says names (term_card s) h =
-    called_says (λ p e. raw_card p e) (codes "card") (set_text names s) (IsSet names s) (is_a_word (codes "card") refl) (set_says names s h) (λ p e ts more f. f)
+    called_says (λ p e. raw_card p e) (codes "card") (set_text names s) (IsSet names s) (is_a_word (codes "card") refl) (set_says names s h)
+    (λ p e ts more f. f)
 term_says names (term_neg a) h =
     negated_says (term_part Unary a (term_text names a)) (Placed Unary (term_tier a) (IsTerm names a))
     (placed_says Unary (term_tier a) (IsTerm names a) (term_text names a) (term_fits names a) (term_says names a h))
@@ -281,7 +283,8 @@ term_says names (term_mod a k) h =
     quotient_says (λ p e. raw_mod p e (number_lit k)) (codes "mod") (term_text names a) (IsTerm names a) k (is_a_word (codes "mod") refl) h.1
     (term_says names a h.0) (λ p q e ts more f. with_divisor k h.1 (Spells Three e) p (codes "mod") ts more f)
 term_says names (term_abs a) h =
-    called_says (λ p e. raw_abs p e) (codes "abs") (term_text names a) (IsTerm names a) (is_a_word (codes "abs") refl) (term_says names a h) (λ p e ts more f. f)
+    called_says (λ p e. raw_abs p e) (codes "abs") (term_text names a) (IsTerm names a) (is_a_word (codes "abs") refl) (term_says names a h)
+    (λ p e ts more f. f)
 
 pub term_placed : (names : List (List ℕ)) (outer : Tier) (a : TermTree) → HasTermSpelling names a →
     Says (In outer (Placed outer (term_tier a) (IsTerm names a))) (term_part outer a (term_text names a))

@@ -51,7 +51,8 @@ unfolding digits
 grouped_numbers = refl
 
 relations : map (rel_text names)
-    (rel_true ∷ rel_false ∷ rel_compare Ge a (term_add b a) ∷ rel_same_set s (union_of s t) ∷ rel_other_set s t ∷ rel_subset s t ∷ rel_divides (pos 3) (term_sub a b)
+    (rel_true ∷ rel_false ∷ rel_compare Ge a (term_add b a) ∷ rel_same_set s (union_of s t) ∷ rel_other_set s t
+    ∷ rel_subset s t ∷ rel_divides (pos 3) (term_sub a b)
     ∷ []) ≡
     codes "true" ∷ codes "false" ∷ codes "a >= b + a" ∷ codes "s == s union t" ∷ codes "s != t" ∷ codes "s subset t" ∷ codes "3 divides a - b" ∷ []
 unfolding digits
