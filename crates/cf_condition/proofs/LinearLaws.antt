@@ -16,6 +16,7 @@ use Rattle.cf_tree.specs.RelView.{rel_tree}
 use Rattle.cf_condition.specs.FormView.{rel_option}
 use Rattle.cf_condition.specs.ConditionLaws.{WrittenIsCondition}
 use Rattle.cf_condition.specs.Forms.{FormTree, number_form, set_form, truth_form, unwritten, negated, counted, opposite, divided, left_by, multiple, if_set, is_literal, product, compared_sets, is_true, is_false, both, either, paired, form_at, set_of, truth_rel, form_in, joined_in, first_in, form_for, scope_forms}
+use Rattle.cf_condition.proofs.TypedLaws.{IsTypedForm, typed_arms}
 use Rattle.cf_condition.proofs.WalkLaws.{condition_holds}
 
 abbrev IsLinearForm : FormTree → Type 0
@@ -265,6 +266,7 @@ written_is_condition scope arms r e =
     record {
       holds = condition_holds scope arms r q;
       linear = subst IsLinearForm q (linear_arms scope (truth_form rel_false) arms tt);
+      typed = λ s. subst (IsTypedForm scope) q (typed_arms scope (truth_form rel_false) arms tt s);
     }
 
 pub answer_is : (scope : List Base) (arms : ArmTrees) (answer : Option Rel) → rel_option answer ≡ condition_of scope arms → ConditionAnswer scope arms answer

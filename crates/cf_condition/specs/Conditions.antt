@@ -5,16 +5,23 @@ use Rattle.cf_tree.specs.declared.rel.Rel.{Rel}
 use Rattle.cf_tree.specs.CodeTree.{ItemTree, let_item, need_item, ItemTrees, no_items, item_more, ArmTree, arm_of, ArmTrees, no_arms, arm_more}
 use Rattle.cf_tree.specs.RelTree.{RelTree, rel_true, rel_false}
 use Rattle.cf_tree.specs.RelView.{rel_tree}
-use Rattle.cf_tree.specs.Relation.{Holds, IsLinear}
+use Rattle.cf_tree.specs.Relation.{Holds, IsLinear, IsTyped}
+use Rattle.cf_tree.specs.Spelled.{AreItemsSpelled}
 use Rattle.cf_tree.specs.Solving.{HoldSomewhere}
 use Rattle.cf_tree.specs.Values.{Value, HaveBases}
 use Rattle.cf_condition.specs.declared.pairing.Pairing.TheVariants.{And, Or}
 use Rattle.cf_condition.specs.Forms.{FormTree, number_form, set_form, truth_form, unwritten, is_written, paired, form_in, scope_forms}
 
--- a linear relation over the scope that holds exactly where the needs of some arm do
+-- the lets and needs of all arms have a spelling, so that their numbers are within the limit
+abbrev pub AreNeedsSpelled : ArmTrees → Type 0
+AreNeedsSpelled no_arms = Unit {0}
+AreNeedsSpelled (arm_more (arm_of bounds is gs) arms) = AreItemsSpelled is × AreNeedsSpelled arms
+
+-- a linear relation that holds exactly where the needs of some arm do; it is one over the scope, where the needs have a spelling
 pub record IsCondition (scope : List Base) (arms : ArmTrees) (rel : RelTree) : Type 0 where
   pub holds : (env : List Value) → HaveBases scope env → Holds rel env ↔ HoldSomewhere arms env
   pub linear : IsLinear rel
+  pub typed : AreNeedsSpelled arms → IsTyped scope rel
 
 -- ---- which arms have one
 -- what the variables so far stand for, and the needs so far

@@ -10,8 +10,8 @@ use crate::pairing::{Pairing, paired};
 use cf_tree::{Arm, Base, Item, NoMemory, Rel};
 use std::alloc::Global;
 
-/// The condition of arms over a scope: a linear relation that holds exactly where the needs of some arm hold. None where an arm
-/// searches, or where a let or a need has no form in a relation.
+/// The condition of arms over a scope: a linear relation that holds exactly where the needs of some arm hold, and that is well typed
+/// where the lets and needs have a spelling. None where an arm searches, or where a let or a need has no form in a relation.
 ///
 /// # Errors
 /// `NoMemory` where memory ran out.
