@@ -1,3 +1,6 @@
+pub mod PlaceLaws
+pub mod FormLaws
+pub mod PartLaws
 pub mod SameLaws
 pub mod LineLaws
 pub mod QuotientLaws

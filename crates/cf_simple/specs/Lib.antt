@@ -1,4 +1,5 @@
 pub mod Lines
+pub mod LineView
 pub mod Quotients
 pub mod Terms
 pub mod Comparisons

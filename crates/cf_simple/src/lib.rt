@@ -1,2 +1,10 @@
-//! Relations put more simply, as a person would write them: the definitions, and their law.
+//! Relations put more simply, as a person would write them.
 #![tactic(auto)]
+
+mod fault;
+mod form;
+mod line;
+mod number;
+mod quotient;
+mod same;
+mod term;
