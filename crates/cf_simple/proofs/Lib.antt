@@ -1,6 +1,3 @@
-pub mod PlaceLaws
-pub mod FormLaws
-pub mod PartLaws
 pub mod SameLaws
 pub mod LineLaws
 pub mod QuotientLaws

@@ -93,3 +93,24 @@ behind_others : simple (rel_and (rel_and (at_least 0) (rel_divides (pos 2) a)) (
     rel_and (rel_and (at_least 4) (rel_divides (pos 2) a)) (at_most 9)
 unfolding gcd_by
 behind_others = refl
+
+-- the needs that an elimination leaves of `3600 * h + 60 * m + s == a && 0 <= h && 0 <= m < 60 && 0 <= s < 60`, with its lets put in
+abbrev minutes : TermTree
+minutes = term_div a (pos 60)
+
+abbrev less_minutes : TermTree
+less_minutes = term_div (term_add (term_add zero (lit 59)) (minus a)) (pos 60)
+
+abbrev hours : TermTree
+hours = term_div minutes (pos 60)
+
+abbrev less_hours : TermTree
+less_hours = term_div (term_add (term_add zero (lit 59)) less_minutes) (pos 60)
+
+abbrev sum_from_zero : TermTree → TermTree → RelTree
+sum_from_zero t u = rel_compare Ge (term_add (term_add zero t) u) zero
+
+clock : simple (rel_and (rel_and (rel_and (rel_compare Ge (lit 59) zero) (sum_from_zero minutes less_minutes)) (rel_compare Ge hours zero))
+    (sum_from_zero less_hours hours)) ≡ rel_compare Ge a zero
+unfolding gcd_by
+clock = refl

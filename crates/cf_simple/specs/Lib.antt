@@ -1,5 +1,4 @@
 pub mod Lines
-pub mod LineView
 pub mod Quotients
 pub mod Terms
 pub mod Comparisons

@@ -1,5 +1,5 @@
 -- Lines: sums of numbers times number forms, and a constant.
-use Rattle.std.specs.Prelude.{ℕ, zero, suc, ℤ, pos, negsuc, ◌+ℤ◌, ◌*ℤ◌, Bool, true, false, ◌&&◌, ◌==◌, List, [], ◌∷◌, if◌then◌else◌}
+use Rattle.std.specs.Prelude.{ℕ, ℤ, pos, negsuc, ◌+ℤ◌, ◌*ℤ◌, Bool, true, false, ◌&&◌, ◌==◌, List, [], ◌∷◌, if◌then◌else◌}
 use Rattle.std.specs.Ordering.{int_eq}
 use Rattle.cf_tree.specs.Relation.{val}
 use Rattle.cf_tree.specs.RelTree.{SetTree, empty_set, set_var, union_of, inter_of, diff_of, TermTree, term_lit, term_var, term_card, term_neg, term_add, term_sub, term_mul, term_div, term_mod, term_abs}
@@ -61,17 +61,6 @@ put_part k t ps = if int_eq k (pos 0) then ps else record { factor = k; of = t }
 abbrev pub add_part : ℤ → TermTree → List Part → List Part
 add_part k t [] = put_part k t []
 add_part k t (p ∷ ps) = if same_term t p.of then put_part (p.factor +ℤ k) p.of ps else p ∷ add_part k t ps
-
--- the index of the part of a form; the number of parts, where there is none
-abbrev pub place_of : TermTree → List Part → ℕ
-place_of t [] = 0
-place_of t (p ∷ ps) = if same_term t p.of then 0 else suc (place_of t ps)
-
--- k more at an index
-abbrev pub joined_at : ℕ → ℤ → List Part → List Part
-joined_at n k [] = []
-joined_at zero k (p ∷ ps) = put_part (p.factor +ℤ k) p.of ps
-joined_at (suc n) k (p ∷ ps) = p ∷ joined_at n k ps
 
 -- k times the first parts, behind the others
 abbrev pub add_parts : ℤ → List Part → List Part → List Part

@@ -1,10 +1,2 @@
-//! Relations put more simply, as a person would write them.
+//! Relations put more simply, as a person would write them: the definitions, and their law.
 #![tactic(auto)]
-
-mod fault;
-mod form;
-mod line;
-mod number;
-mod quotient;
-mod same;
-mod term;

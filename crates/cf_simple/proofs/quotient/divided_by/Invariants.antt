@@ -1,7 +1,0 @@
-use Rattle.std.proofs.Common.{◌≡◌, ◌++◌, map}
-use Rattle.cf_simple.specs.Quotients.{divided_by}
-use Rattle.cf_simple.specs.LineView.{part_tree}
-use Rattle.cf_simple.proofs.quotient.divided_by.Given as goal
-
-abbrev pub invariant-loop-part : goal.invariant-loop-part
-invariant-loop-part l = map part_tree l.all.items ++ divided_by l.g (map part_tree l.part-iterator.rest.items) ≡ divided_by l.g (map part_tree l.fn.parts.items)

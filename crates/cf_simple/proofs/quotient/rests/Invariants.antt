@@ -1,7 +1,0 @@
-use Rattle.std.proofs.Common.{◌≡◌, ◌++◌, map}
-use Rattle.cf_simple.specs.Quotients.{rests}
-use Rattle.cf_simple.specs.LineView.{part_tree}
-use Rattle.cf_simple.proofs.quotient.rests.Given as goal
-
-abbrev pub invariant-loop-part : goal.invariant-loop-part
-invariant-loop-part l = map part_tree l.all.items ++ rests l.k (map part_tree l.part-iterator.rest.items) ≡ rests l.k (map part_tree l.fn.parts.items)
