@@ -1,0 +1,6 @@
+pub mod Deciding
+pub mod FormLaws
+pub mod WalkLaws
+pub mod TypedLaws
+pub mod LinearLaws
+mod ConditionExamples

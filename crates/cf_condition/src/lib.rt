@@ -1,0 +1,9 @@
+//! Conditions: where the needs of arms hold, as a relation of the language.
+#![tactic(auto)]
+
+mod arms;
+mod codes;
+mod form;
+mod pairing;
+
+pub use crate::arms::condition;

@@ -1,0 +1,3 @@
+pub mod RelationText
+pub mod RelationTree
+pub mod ReadsBack
