@@ -1,0 +1,13 @@
+pub mod Atoms
+pub mod Branches
+pub mod Facts
+pub mod Formulas
+pub mod Items
+pub mod Members
+pub mod Rewriting
+pub mod Simplifying
+pub mod States
+pub mod Sums
+pub mod Tight
+pub mod Turns
+pub mod Writing

@@ -1,0 +1,9 @@
+pub mod Cleaning
+pub mod Following
+pub mod Holding
+pub mod Laws
+pub mod Leaves
+pub mod Planned
+pub mod Plans
+pub mod Ready
+pub mod Stepping

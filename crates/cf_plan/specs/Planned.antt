@@ -1,0 +1,64 @@
+-- The code of a choose by a plan.
+use Rattle.std.specs.Prelude.{◌≡◌, ℕ, pos, List, [], ◌∷◌, map, nat_lt, false, Result, Ok, Err, if◌then◌else◌}
+use Rattle.std.specs.List.{list_any}
+use Rattle.cf_tree.specs.declared.base.Base.{Base}
+use Rattle.cf_tree.specs.declared.base.Base.TheVariants.{Int, Bool, Set}
+use Rattle.cf_tree.specs.declared.base.Order.TheVariants.{Eq}
+use Rattle.cf_tree.specs.Allowed.{Chosen}
+use Rattle.cf_tree.specs.ChooseTree.{ChooseTree}
+use Rattle.cf_tree.specs.CodeTree.{CodeTree, code_lit, code_set_of, code_truth, code_compare, code_solve, no_codes, need_item, ArmTree, arm_of, arms_of, codes_of, items_of}
+use Rattle.cf_tree.specs.Meaning.{means}
+use Rattle.cf_tree.specs.Relation.{Sol}
+use Rattle.cf_tree.specs.Values.{Value, HaveBases}
+use Rattle.cf_linear.specs.declared.refusal.LimitKind.TheVariants.{Sets}
+use Rattle.cf_linear.specs.declared.refusal.Refusal.TheVariants.{Past, Limit}
+use Rattle.cf_linear.specs.declared.refusal.TheConstants.{MOST_SETS}
+use Rattle.cf_linear.specs.Layout.{Layout, layout_of, set_count}
+use Rattle.cf_formula.specs.Simplifying.{simplified}
+use Rattle.cf_formula.specs.States.{State, Next}
+use Rattle.cf_formula.specs.Writing.{first_columns, first_conditions}
+use Rattle.cf_plan.specs.declared.why.Why.TheVariants.{Refused}
+use Rattle.cf_plan.specs.Following.{Fault, Progress, on_ok, follow, no_progress}
+use Rattle.cf_plan.specs.Laws.{first_state, IsPlan}
+use Rattle.cf_plan.specs.Leaves.{leaf_arm, leaf_passes}
+use Rattle.cf_plan.specs.Plans.{PlanTree}
+
+-- ---- the arms
+-- something of the base, which is never given
+abbrev pub any_code : Base → CodeTree
+any_code Int = code_lit (pos 0)
+any_code Bool = code_truth false
+any_code Set = code_set_of no_codes
+
+-- an arm that is never taken
+abbrev pub no_arm : List Base → ArmTree
+no_arm outputs = arm_of [] (items_of (need_item (code_compare Eq (code_lit (pos 0)) (code_lit (pos 1))) ∷ [])) (codes_of (map any_code outputs))
+
+abbrev pub arms_or_none : List Base → List ArmTree → List ArmTree
+arms_or_none outputs [] = no_arm outputs ∷ []
+arms_or_none outputs (a ∷ as_) = a ∷ as_
+
+-- ---- a choose
+abbrev pub layout : ChooseTree → Layout
+layout q = layout_of q.scope q.outputs q.relation
+
+-- the state from which the plan of a choose is followed
+abbrev pub start : ChooseTree → State
+start q = first_state (first_columns (layout q) q.relation) (simplified [] (first_conditions (layout q) q.relation))
+
+abbrev pub solved_by : ChooseTree → List Next → Result CodeTree Fault
+solved_by q leaves =
+    (if list_any (leaf_passes (layout q)) leaves then Err (0, 0, Refused Past)
+    else Ok (code_solve q.number (arms_of (arms_or_none q.outputs (map (leaf_arm (layout q)) leaves)))))
+
+-- the code of the choose, or where the plan is rejected and why
+unfoldable pub planned : ChooseTree → PlanTree → Result CodeTree Fault
+planned q t =
+    (if nat_lt MOST_SETS (set_count (layout q)) then Err (0, 0, Refused (Limit Sets (set_count (layout q))))
+    else on_ok (λ (r : List Next × Progress). solved_by q r.0) (follow t no_progress (start q)))
+
+-- ---- what is owed, and not proved yet
+-- the code of a plan that is taken means a solution, or that there is none exactly where there is none, whoever wrote the plan
+abbrev pub PlannedMeans : (ChooseTree → Type 0) → Type 0
+PlannedMeans IsChoose = (q : ChooseTree) (t : PlanTree) (c : CodeTree) → IsChoose q → IsPlan t → planned q t ≡ Ok c →
+    (env : List Value) → HaveBases q.scope env → Chosen q.number (Sol q.outputs q.relation env) (means c env)

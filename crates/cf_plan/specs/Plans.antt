@@ -1,0 +1,27 @@
+-- Plans: trees of steps and ends.
+use Rattle.std.specs.Prelude.{ℕ, ℤ, Bool, List}
+use Rattle.cf_linear.specs.Rows.{Row}
+
+-- the matrix of a turn gives each unknown as a sum of new ones, and the second one is its inverse; a search is of lower bounds where the truth value says so
+pub data ActTree : Type 0 where
+  act_simplify : ActTree
+  act_clean : ActTree
+  act_drop : ℕ → ActTree
+  act_last : ℕ → ActTree
+  act_search : ℕ → Bool → ActTree
+  act_turn : List ℕ → List (List ℤ) → List (List ℤ) → ActTree
+  act_shift : ℕ → Row → ActTree
+
+-- nothing is left, nothing can hold, or a branch for each member of a pending formula
+pub data EndTree : Type 0 where
+  end_over : EndTree
+  end_close : EndTree
+  end_or : ℕ → EndTree
+
+mutual
+  pub data PlanTree : Type 0 where
+    plan_node : List ActTree → EndTree → PlanTrees → PlanTree
+
+  pub data PlanTrees : Type 0 where
+    no_plans : PlanTrees
+    plan_more : PlanTree → PlanTrees → PlanTrees
