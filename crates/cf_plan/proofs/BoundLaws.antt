@@ -1,35 +1,39 @@
 -- The search and the drop of an unknown, beside pending formulas.
-use Rattle.std.proofs.Common.{◌≡◌, ◌≢◌, ℕ, suc, ◌<◌, ◌==◌, ℤ, pos, negsuc, neg_ℤ, ◌+ℤ◌, ◌-ℤ◌, ◌*ℤ◌, List, [], ◌∷◌, ◌++◌, map, Bool, true, false, not, ◌||◌, cond, Ok, refl, sym, ◌∙◌, ap, arith, subst, ◌⊎◌, inl, inr, ⊎_elim, ◌↔◌}
-use Rattle.std.specs.Prelude.{◌≤ℤ◌, ◌<ℤ◌, int_lt, nat_lt}
+use Rattle.std.proofs.Common.{◌≡◌, ◌≢◌, ℕ, suc, ◌<◌, ◌≤◌, All, ℤ, pos, negsuc, neg_ℤ, ◌+ℤ◌, ◌-ℤ◌, ◌*ℤ◌, List, [], ◌∷◌, ◌++◌, map, Bool, true, false, not, ◌||◌, cond, Ok, refl, sym, ◌∙◌, ap, arith, subst, ◌⊎◌, inl, inr, ⊎_elim, ◌↔◌}
+use Rattle.std.specs.Prelude.{◌<ℤ◌, int_lt, nat_lt}
 use Rattle.std.specs.List.{list_any, flat_map}
 use Rattle.std.proofs.lemmas.Int.{ints}
 use Rattle.std.proofs.lemmas.Bool.{cond_both, eqb-true}
+use Rattle.std.proofs.lemmas.List.Elements.{All-nil}
 use Rattle.cf_linear.specs.declared.refusal.LimitKind.TheVariants.{Rows}
 use Rattle.cf_linear.specs.declared.refusal.Refusal.TheVariants.{Past, Limit}
-use Rattle.cf_linear.specs.declared.refusal.TheConstants.{MOST_ROWS}
-use Rattle.cf_linear.specs.Keep.{In, Over, Within, update, after_back, Formed}
+use Rattle.cf_linear.specs.declared.refusal.TheConstants.{MOST_ROWS, MOST_TUPLES}
+use Rattle.cf_linear.specs.Keep.{In, Over, Within, after_back}
 use Rattle.cf_linear.specs.Rows.{Row, Values, entry, value, is_zero, comb, Rises}
-use Rattle.cf_linear.specs.Solved.{Owes}
-use Rattle.cf_linear.specs.Steps.{has_column, is_unit, is_positive, one_at, lowers, uppers, no_found, found_all, searched, dropped, drop_passes}
-use Rattle.cf_linear.specs.Systems.{System, EachRow, Sat, Answer}
+use Rattle.cf_linear.specs.Solved.{let_columns, search_columns, Owes}
+use Rattle.cf_linear.specs.Steps.{has_column, is_unit, is_positive, one_at, lowers, uppers, no_found, found_all, searched, searched_by, dropped, drop_passes}
+use Rattle.cf_linear.specs.Systems.{System, EachRow, Answer}
 use Rattle.cf_linear.proofs.BoolLemmas.{on_bool}
 use Rattle.cf_linear.proofs.FormedLemmas.{kinds_from}
-use Rattle.cf_linear.proofs.KindLemmas.{IsZero, IsNonneg, EachRow-with, EachRow-tested, Over-both, Over-weaker, In-filter, In-left, free_row}
+use Rattle.cf_linear.proofs.KindLemmas.{IsZero, IsNonneg, EachRow-weaker, EachRow-with, EachRow-tested, Over-both, Over-weaker, In-filter, In-unfilter, In-append, In-left, Rising-in, Rising-le, free_row}
 use Rattle.cf_linear.proofs.PassingLemmas.{or_false}
 use Rattle.cf_linear.proofs.RowLemmas.{value-comb, zero_from_is_zero}
 use Rattle.cf_linear.proofs.SideLemmas.{positive_so, negative_so}
 use Rattle.cf_linear.proofs.ValueLemmas.{one_z, update-other}
-use Rattle.cf_bounds.specs.Exact.{IsFree, IsExact, AreExact}
-use Rattle.cf_bounds.proofs.BoundLemmas.{searched_step}
+use Rattle.cf_bounds.specs.Exact.{IsExact, AreExact}
+use Rattle.cf_bounds.proofs.BoundLemmas.{made_all, searched_step}
 use Rattle.cf_bounds.proofs.FormedAgain.{dropped_formed}
 use Rattle.cf_bounds.proofs.OwesLemmas.{dropped_step}
 use Rattle.cf_bounds.proofs.SearchFormed.{searched_formed}
+use Rattle.cf_elim.specs.Returning.{Returns}
+use Rattle.cf_elim.proofs.SearchLaws.{IsSome, bounds_of, search_some}
+use Rattle.cf_elim.proofs.StepReturns.{returns_dropped}
 use Rattle.cf_formula.specs.Atoms.{is_constant, tight_row, ge}
-use Rattle.cf_formula.specs.Branches.{Branch, IsOfKnown, GivenIn, Grows, Leads}
+use Rattle.cf_formula.specs.Branches.{Grows, Leads}
 use Rattle.cf_formula.specs.Formulas.{Formula, always, never, at_least, equal, both, either, Holds, EachAtom, Throughout, EachFormula}
 use Rattle.cf_formula.specs.Items.{item_of, EachItemOver}
 use Rattle.cf_formula.specs.Members.{all_of}
-use Rattle.cf_formula.specs.States.{Conditions, Model, with_row, add_all, whole, Columns, State, Next, branch_of}
+use Rattle.cf_formula.specs.States.{Conditions, Model, with_row, add_all, whole, State, Next, branch_of}
 use Rattle.cf_formula.proofs.AtomLaws.{ge-holds, tight-holds}
 use Rattle.cf_formula.proofs.BranchLaws.{given_in_known}
 use Rattle.cf_formula.proofs.FormulaLemmas.{EachFormula-append, Holds-on, then_iff}
@@ -40,12 +44,13 @@ use Rattle.cf_formula.proofs.StateLaws.{with_row-each, add_all-holds, death-hold
 use Rattle.cf_plan.specs.declared.why.Why.TheVariants.{Unknown, HeldByEquation, HeldByFormula, Exact, Refused}
 use Rattle.cf_plan.specs.Cleaning.{with_fact, with_facts}
 use Rattle.cf_plan.specs.Holding.{atom_rows, holds_column, is_in_equation, is_in_formula}
-use Rattle.cf_plan.specs.Laws.{IsColumn, AreColumns, IsRowOver, AreOver}
+use Rattle.cf_plan.specs.Laws.{IsColumn, IsRowOver}
+use Rattle.cf_plan.specs.Made.{IsMadeFrom}
 use Rattle.cf_plan.specs.Plans.{act_drop, act_search}
 use Rattle.cf_plan.specs.Ready.{IsReady, IsLawfulAt}
-use Rattle.cf_plan.specs.Stepping.{has_inexact, system_of, columns_of, bound_rows, searched_next, dropped_count, dropped_next, counted, stepped}
+use Rattle.cf_plan.specs.Stepping.{has_inexact, system_of, columns_of, bound_rows, searched_next, dropped_count, dropped_next, stepped}
 use Rattle.cf_plan.proofs.ConditionLaws.{row_kind, add_all-over, ge_all-through}
-use Rattle.cf_plan.proofs.ReadyLaws.{is_true, not_rejected, counted_so, column_in, column_below, atoms_weaker, each_atoms_weaker, formed, lets_wider}
+use Rattle.cf_plan.proofs.ReadyLaws.{is_true, not_rejected, counted_so, counted_few, column_in, column_below, filter_gone, some_unless, atoms_weaker, each_atoms_weaker, formed, lets_wider}
 
 -- ---- conditions as a system and a rest
 abbrev pub rest_parts : Conditions → List Formula
@@ -72,8 +77,8 @@ pub is_beside : (m : System) (c : Conditions) → m.equations ≡ c.equations �
 is_beside m c e f v one =
     let i = then_iff (whole-holds v c) (model_beside v c) in (
       (λ h.
-      let k = i.0 h in
-      (record { zero = subst (EachRow (IsZero v)) (sym e) k.0.0; nonneg = subst (EachRow (IsNonneg v)) (sym f) k.0.1 }, k.1)),
+          let k = i.0 h in
+          (record { zero = subst (EachRow (IsZero v)) (sym e) k.0.0; nonneg = subst (EachRow (IsNonneg v)) (sym f) k.0.1 }, k.1)),
       (λ h. i.1 ((subst (EachRow (IsZero v)) e h.0.zero, subst (EachRow (IsNonneg v)) f h.0.nonneg), h.1)),
     )
 
@@ -91,7 +96,8 @@ rest_over Q z c h =
     (all_of-through (IsRowOver Q) (row_kind Q z) (rest_parts c) (rest_through (IsRowOver Q) c h))
 
 -- ---- facts
-with_fact-holds : (v : Values) → v 0 ≡ pos 1 → (facts : List Row) (r : Row) → EachRow (IsNonneg v) facts → IsNonneg v r → EachRow (IsNonneg v) (with_fact facts r)
+with_fact-holds : (v : Values) → v 0 ≡ pos 1 → (facts : List Row) (r : Row) → EachRow (IsNonneg v) facts → IsNonneg v r →
+    EachRow (IsNonneg v) (with_fact facts r)
 with_fact-holds v one facts r h k =
     cond_both (is_constant r) facts (with_row facts (tight_row r)) (EachRow (IsNonneg v)) (λ e. h)
     (λ e. (with_row-each (IsNonneg v) facts (tight_row r)).1 ((tight-holds v one r).1 k, h))
@@ -111,7 +117,8 @@ bounds_hold v one ((k, p) ∷ bs) h =
     (rw (one_z (v k)) low, (rw e (omega (arith, ints)), bounds_hold v one bs h.2))
 
 -- ---- search
-module _ (Given : Values → Type 0) (s : State) (r : IsReady Given s) (x : ℕ) (lower : Bool) (i : In x s.columns.unknown) where
+module _ (Given : Values → Type 0) (s : State) (r : IsReady Given s) (x : ℕ) (lower : Bool) (i : In x s.columns.unknown)
+    (few : (searched_next (searched (system_of s) x lower) s).state.tuples ≤ MOST_TUPLES) where
   abbrev found : Answer
   found = searched (system_of s) x lower
 
@@ -145,6 +152,51 @@ module _ (Given : Values → Type 0) (s : State) (r : IsReady Given s) (x : ℕ)
   search_grows : Grows s.columns.known (branch_of (searched_next (searched (system_of s) x lower) s))
   search_grows = record { grows = owed.columns.grows; bounds_known = owed.columns.bound_known; items_known = tt }
 
+  no_lets : (d : ℕ) → In d (let_columns (searched (system_of s) x lower).steps) → ⊥
+  unfolding searched
+  no_lets d k = k
+
+  search_new : (d : ℕ) → In d (searched (system_of s) x lower).system.unknown → In d s.columns.unknown ⊎ (s.columns.next ≤ d)
+  unfolding searched
+  search_new d k =
+      let m = system_of s in
+      let f = found_all x lower (no_found m) m.inequalities in
+      let h = made_all m.next x lower m.inequalities (no_found m) (record { same = refl; rise = omega arith; unknown_rise = omega arith; apart = λ c i j. i })
+      in
+      ⊎_elim (λ j. inl j) (λ j. inr (Rising-in m.next f.next d f.unknowns h.unknown_rise j).0) (In-append d s.columns.unknown f.unknowns k)
+
+  search_some_bounds : All IsSome (bounds_of (searched (system_of s) x lower).bounds)
+  unfolding searched_by
+  search_some_bounds = search_some (system_of s) (record { unknown = x; lower = lower; product = 2; pairs = 0 })
+
+  search_made : IsMadeFrom s.columns s.tuples (searched_next (searched (system_of s) x lower) s)
+  search_made =
+      let a = searched (system_of s) x lower in
+      let c = owed.columns in
+      record {
+        next = Rising-le s.columns.next a.system.next (search_columns a.bounds) c.bounds_rise;
+        searches = c.bounds_rise;
+        known = λ d k. ⊎_elim (λ j. absurd (no_lets d j)) (λ j. inr j) (c.only d k);
+        fresh = λ d q.
+            ⊎_elim
+            (λ h. ⊎_elim
+            (λ k. ⊎_elim (λ j. absurd (no_lets d j))
+            (λ j. ⊎_elim (λ i. inl (inl i)) (λ i. inr (Rising-in s.columns.next a.system.next d (search_columns a.bounds) c.bounds_rise i).0) j) (c.only d k))
+            (λ k. ⊎_elim (λ i. inl (inr i)) (λ l. inr l) (search_new d k)) h)
+            (λ h. absurd h) q;
+        over = tt;
+        new = tt;
+        divide = tt;
+        covers = λ d k. inl (search_unknown d k);
+        back_over = tt;
+        back_new = tt;
+        back_divides = tt;
+        back_old = λ d k. absurd k;
+        bounds = search_some_bounds;
+        counted = refl;
+        few = λ l. few;
+      }
+
   pub search_lawful_at : IsLawfulAt Given s (searched_next (searched (system_of s) x lower) s)
   search_lawful_at =
       let m = system_of s in
@@ -167,8 +219,10 @@ module _ (Given : Values → Type 0) (s : State) (r : IsReady Given s) (x : ℕ)
         ready = record {
           columns = record { constant = f.constant; below = f.below; unknown_below = f.unknown_below; apart = f.apart };
           conditions = record {
-            zero = EachRow-with (Over (IsColumn n.state.columns)) (Rises 0) (IsRowOver (IsColumn n.state.columns)) rows_of a.system.equations f.zero f.zero_rise;
-            nonneg = EachRow-with (Over (IsColumn n.state.columns)) (Rises 0) (IsRowOver (IsColumn n.state.columns)) rows_of a.system.inequalities f.nonneg f.nonneg_rise;
+            zero = EachRow-with (Over (IsColumn n.state.columns)) (Rises 0) (IsRowOver (IsColumn n.state.columns)) rows_of a.system.equations f.zero
+                f.zero_rise;
+            nonneg = EachRow-with (Over (IsColumn n.state.columns)) (Rises 0) (IsRowOver (IsColumn n.state.columns)) rows_of a.system.inequalities f.nonneg
+                f.nonneg_rise;
             pending = each_atoms_weaker (IsRowOver (IsColumn s.columns)) (IsRowOver (IsColumn n.state.columns))
                 (λ q o. (Over-weaker (IsColumn s.columns) (IsColumn n.state.columns) wider q o.0, o.1)) s.conditions.pending r.conditions.pending;
           };
@@ -177,6 +231,7 @@ module _ (Given : Values → Type 0) (s : State) (r : IsReady Given s) (x : ℕ)
           lets = λ v one g. r.lets v one g.0;
           lets_known = lets_wider s.columns.known n.state.columns.known owed.columns.grows s.shared r.lets_known;
         };
+        made = search_made;
       }
 
 -- ---- what the tests of a drop say
@@ -293,14 +348,49 @@ module _ (Given : Values → Type 0) (s : State) (r : IsReady Given s) (x : ℕ)
       let g = all_ge-hold v one a.system.inequalities in
       let b = model_beside v base in (
         (λ h.
-        let k = o.0 (w.0 h) in
-        let q = b.0 k.1 in
-        (record { zero = subst (EachRow (IsZero v)) (sym drop_equations) q.0.0; nonneg = g.0 k.0 }, q.1)),
+            let k = o.0 (w.0 h) in
+            let q = b.0 k.1 in
+            (record { zero = subst (EachRow (IsZero v)) (sym drop_equations) q.0.0; nonneg = g.0 k.0 }, q.1)),
         (λ h. w.1 (o.1 (g.1 h.0.nonneg, b.1 ((subst (EachRow (IsZero v)) drop_equations h.0.zero, tt), h.1)))),
       )
 
   drop_grows : Grows s.columns.known (branch_of (dropped_next (dropped (system_of s) x) s))
   drop_grows = record { grows = drop_owed.columns.grows; bounds_known = λ c j. absurd j; items_known = tt }
+
+  x_apart : 0 ≢ x
+  x_apart e = r.columns.apart 0 r.columns.constant (subst (λ z. In z s.columns.unknown) (sym e) i)
+
+  drop_returns : Returns (system_of s) (dropped (system_of s) x)
+  drop_returns = returns_dropped (system_of s) x (some_unless x x_apart)
+      (EachRow-weaker (IsRowOver (IsColumn s.columns)) (Over (IsColumn s.columns)) (λ q o. o.0) s.conditions.inequalities r.conditions.nonneg)
+
+  drop_made : IsMadeFrom s.columns s.tuples (dropped_next (dropped (system_of s) x) s)
+  unfolding dropped
+  drop_made =
+      let a = dropped (system_of s) x in
+      let back : (d : ℕ) → In d (x ∷ []) → In d s.columns.unknown = λ d h.
+      ⊎_elim (λ (e : d ≡ x). subst (λ z. In z s.columns.unknown) (sym e) i) (λ j. absurd j) h in
+      record {
+        next = omega arith;
+        searches = omega arith;
+        known = λ d k. inr (inl k);
+        fresh = λ d q.
+            ⊎_elim (λ h. ⊎_elim (λ k. inl (inl k)) (λ k. inl (inr (In-unfilter d x s.columns.unknown k))) h) (λ h. inl (inr (back d h))) q;
+        over = tt;
+        new = tt;
+        divide = tt;
+        covers = drop_returns.comes.covers;
+        back_over = drop_returns.comes.over;
+        back_new = (
+          (λ q. ⊎_elim (λ k. r.columns.apart x k i) (λ k. filter_gone x s.columns.unknown k) q),
+          tt,
+        );
+        back_divides = drop_returns.back;
+        back_old = λ d h. r.columns.unknown_below d (back d h);
+        bounds = All-nil IsSome;
+        counted = refl;
+        few = λ l. l;
+      }
 
   pub drop_lawful_at : IsLawfulAt Given s (dropped_next (dropped (system_of s) x) s)
   drop_lawful_at =
@@ -313,7 +403,6 @@ module _ (Given : Values → Type 0) (s : State) (r : IsReady Given s) (x : ℕ)
       let small : ℕ → Type 0 = λ d. d < s.columns.next in
       let pending = each_apart_from (IsColumn s.columns) Q x drop_columns s.conditions.pending out r.conditions.pending in
       let away = each_apart_from (IsColumn s.columns) (λ c. c ≢ x) x (λ c q d. d) s.conditions.pending out r.conditions.pending in
-      let x_some : 0 ≢ x = λ e. r.columns.apart 0 r.columns.constant (subst (λ z. In z s.columns.unknown) (sym e) i) in
       record {
         leads = subst (λ b. Leads s.columns.known Given (whole s.conditions) (b ∷ [])) (sym drop_is_lifted)
             (lift_leads m a Given (whole s.conditions) (whole n.state.conditions) (rest_of s.conditions) drop_owed.keeps r.columns.constant r.columns.below
@@ -321,15 +410,17 @@ module _ (Given : Values → Type 0) (s : State) (r : IsReady Given s) (x : ℕ)
             (each_atoms_weaker (IsRowOver (IsColumn s.columns)) (IsRowOver small)
             (λ q o. (Over-weaker (IsColumn s.columns) small (column_below s.columns r.columns) q o.0, o.1)) s.conditions.pending r.conditions.pending))
             (is_beside m s.conditions refl refl) drop_beside
-            (λ v h. Holds-on (λ c. c ≢ x) v (after_back v a.back) (drop_other v) (rest_of s.conditions) (rest_over (λ c. c ≢ x) x_some s.conditions away) h)
+            (λ v h. Holds-on (λ c. c ≢ x) v (after_back v a.back) (drop_other v) (rest_of s.conditions) (rest_over (λ c. c ≢ x) x_apart s.conditions away) h)
             (λ v c k. sym (drop_owed.kept v c k))
             (record { grows = drop_owed.columns.grows; bounds_known = drop_owed.columns.bound_known; items_known = drop_items (λ d. In d a.system.known) }));
         ready = record {
           columns = record { constant = f.constant; below = f.below; unknown_below = f.unknown_below; apart = f.apart };
           conditions = add_all-over Q (inl f.constant) (map ge a.system.inequalities) base
-              (ge_all-through Q (inl f.constant) a.system.inequalities (EachRow-with (Over Q) (Rises 0) (IsRowOver Q) rows_of a.system.inequalities f.nonneg f.nonneg_rise))
+              (ge_all-through Q (inl f.constant) a.system.inequalities
+              (EachRow-with (Over Q) (Rises 0) (IsRowOver Q) rows_of a.system.inequalities f.nonneg f.nonneg_rise))
               (record {
-                zero = subst (EachRow (IsRowOver Q)) drop_equations (EachRow-with (Over Q) (Rises 0) (IsRowOver Q) rows_of a.system.equations f.zero f.zero_rise);
+                zero = subst (EachRow (IsRowOver Q)) drop_equations
+                    (EachRow-with (Over Q) (Rises 0) (IsRowOver Q) rows_of a.system.equations f.zero f.zero_rise);
                 nonneg = tt;
                 pending = pending;
               });
@@ -338,6 +429,7 @@ module _ (Given : Values → Type 0) (s : State) (r : IsReady Given s) (x : ℕ)
           lets = λ v one g. r.lets v one g.0;
           lets_known = lets_wider s.columns.known n.state.columns.known drop_owed.columns.grows s.shared r.lets_known;
         };
+        made = drop_made;
       }
 
 -- ---- the steps
@@ -346,8 +438,9 @@ pub search_lawful : (Given : Values → Type 0) (x : ℕ) (lower : Bool) (s : St
 search_lawful Given x lower s n r e =
     let a = not_rejected (not (has_column s.columns.unknown x)) Unknown _ n e in
     let b = not_rejected (is_in_equation x s.conditions) HeldByEquation _ n a.1 in
-    subst (IsLawfulAt Given s) (counted_so (searched_next (searched (system_of s) x lower) s) n b.1)
-    (search_lawful_at Given s r x lower (column_in s.columns.unknown x (is_true (has_column s.columns.unknown x) a.0)))
+    let m = searched_next (searched (system_of s) x lower) s in
+    subst (IsLawfulAt Given s) (counted_so m n b.1)
+    (search_lawful_at Given s r x lower (column_in s.columns.unknown x (is_true (has_column s.columns.unknown x) a.0)) (counted_few m n b.1))
 
 pub drop_lawful : (Given : Values → Type 0) (x : ℕ) (s : State) (n : Next) → IsReady Given s → stepped (act_drop x) s ≡ Ok n → IsLawfulAt Given s n
 drop_lawful Given x s n r e =

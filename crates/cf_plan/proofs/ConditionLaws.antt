@@ -1,10 +1,8 @@
 -- The columns of conditions that a step makes.
-use Rattle.std.proofs.Common.{◌≡◌, ℕ, zero, suc, pos, List, [], ◌∷◌, ◌++◌, map, Bool, true, false, ◌||◌, cond, take, drop, slice_get, Some, refl, sym, subst, ◌↔◌, zero-le}
+use Rattle.std.proofs.Common.{◌≡◌, ℕ, zero, suc, pos, List, [], ◌∷◌, ◌++◌, map, Bool, true, false, ◌||◌, cond, take, drop, slice_get, Some, sym, subst, ◌↔◌, zero-le}
 use Rattle.std.specs.Int.{int_div_euclid}
 use Rattle.std.specs.List.{list_any}
 use Rattle.std.proofs.lemmas.Bool.{cond_both}
-use Rattle.cf_linear.specs.Arm.{negated}
-use Rattle.cf_linear.specs.Keep.{Over}
 use Rattle.cf_linear.specs.Rows.{Row, same_row, Rises}
 use Rattle.cf_linear.specs.Steps.{divided}
 use Rattle.cf_linear.specs.Systems.{EachRow}
@@ -19,7 +17,6 @@ use Rattle.cf_formula.specs.Simplifying.{sure, add_while, without_pending, same_
 use Rattle.cf_formula.specs.States.{Conditions, killed, with_row, add, add_all, parts, whole, changed}
 use Rattle.cf_formula.proofs.FormulaLemmas.{EachFormula-append}
 use Rattle.cf_formula.proofs.OverLaws.{IsKind, over_kind, ge-through, eq-through, with_rows-through, settled-through, all_of-through}
-use Rattle.cf_plan.specs.Following.{without_formula}
 use Rattle.cf_plan.specs.Laws.{IsRowOver, AreOver}
 
 -- ---- one of a list of formulas
@@ -49,7 +46,6 @@ row_kind Q z =
     }
 
 module _ (Q : ℕ → Type 0) (constant : Q 0) where
-
   with_row-over : (rows : List Row) (r : Row) → IsRowOver Q r → EachRow (IsRowOver Q) rows → EachRow (IsRowOver Q) (with_row rows r)
   with_row-over rows r o h =
       cond_both (list_any (same_row r) rows) rows (rows ++ (r ∷ [])) (EachRow (IsRowOver Q)) (λ e. h) (λ e. EachRow-append (IsRowOver Q) rows (r ∷ []) h (o, tt))

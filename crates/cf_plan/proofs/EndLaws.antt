@@ -1,12 +1,10 @@
 -- The ends of nodes.
-use Rattle.std.proofs.Common.{◌≡◌, ℕ, suc, pos, ◌==◌, List, [], ◌∷◌, ◌++◌, length, map, Bool, true, false, ◌||◌, cond, take, drop, slice_get, Option, Some, None, Result, Ok, Err, refl, sym, ap, subst, ◌⊎◌, inl, inr, ⊎_elim, ◌∙◌, ◌↔◌, true≢false}
+use Rattle.std.proofs.Common.{◌≡◌, ℕ, pos, ◌==◌, List, [], ◌∷◌, length, Bool, true, false, ◌||◌, cond, slice_get, Option, Some, None, Result, Ok, Err, refl, sym, subst, ◌⊎◌, inl, inr, ⊎_elim, ◌∙◌, ◌↔◌, true≢false}
 use Rattle.cf_linear.specs.Rows.{Values}
-use Rattle.cf_linear.proofs.BoolLemmas.{on_bool}
 use Rattle.cf_formula.specs.Formulas.{Formula, Holds, EachAtom, EachFormula, SomeFormula}
 use Rattle.cf_formula.specs.Members.{disjuncts}
 use Rattle.cf_formula.specs.Simplifying.{is_refuted}
-use Rattle.cf_formula.specs.States.{Conditions, Model, add, State, bare, with_conditions}
-use Rattle.cf_formula.proofs.FormulaLemmas.{then_iff}
+use Rattle.cf_formula.specs.States.{Conditions, Model, State, bare}
 use Rattle.cf_formula.proofs.MemberLaws.{disjuncts-hold}
 use Rattle.cf_formula.proofs.OverLaws.{disjuncts-through}
 use Rattle.cf_formula.proofs.SimplifyLaws.{refuted-so}
@@ -31,6 +29,7 @@ SomeState P (s ∷ ss) = P s ⊎ SomeState P ss
 -- the conditions of one of the branches hold exactly where those of the state do
 pub record IsParted (Given : Values → Type 0) (s : State) (ss : List State) : Type 0 where
   pub same : EachState (λ t. t.columns ≡ s.columns) ss
+  pub tuples : EachState (λ t. t.tuples ≡ s.tuples) ss
   pub ready : EachState (IsReady Given) ss
   pub some : (v : Values) → v 0 ≡ pos 1 → Given v → Model s.conditions v ↔ SomeState (λ t. Model t.conditions v) ss
 
@@ -73,6 +72,10 @@ module _ (Given : Values → Type 0) (s : State) (r : IsReady Given s) (i : ℕ)
   members_same [] = tt
   members_same (g ∷ gs) = (refl, members_same gs)
 
+  members_tuples : (gs : List Formula) → EachState (λ t. t.tuples ≡ s.tuples) (member_states i gs s)
+  members_tuples [] = tt
+  members_tuples (g ∷ gs) = (refl, members_tuples gs)
+
   members_ready : (gs : List Formula) → EachFormula (EachAtom (IsRowOver (IsColumn s.columns))) gs → AreOver (IsColumn s.columns) rest →
       EachState (IsReady Given) (member_states i gs s)
   members_ready [] t o = tt
@@ -102,6 +105,7 @@ module _ (Given : Values → Type 0) (s : State) (r : IsReady Given s) (i : ℕ)
       let t = (one_and_rest (EachAtom (IsRowOver (IsColumn s.columns))) s.conditions.pending i f e).0 r.conditions.pending in
       record {
         same = members_same (disjuncts f);
+        tuples = members_tuples (disjuncts f);
         ready = members_ready (disjuncts f) (disjuncts-through (IsRowOver (IsColumn s.columns)) (row_kind (IsColumn s.columns) (inl r.columns.constant)) f t.0)
             (record { zero = r.conditions.zero; nonneg = r.conditions.nonneg; pending = t.1 });
         some = λ v one given.
@@ -109,11 +113,11 @@ module _ (Given : Values → Type 0) (s : State) (r : IsReady Given s) (i : ℕ)
             let d = disjuncts-hold v f in
             let m = members_some v (disjuncts f) in (
               (λ h.
-              let k = p.0 h.pending in
-              m.0 (d.1 k.0, record { alive = h.alive; zero = h.zero; nonneg = h.nonneg; pending = k.1 })),
+                  let k = p.0 h.pending in
+                  m.0 (d.1 k.0, record { alive = h.alive; zero = h.zero; nonneg = h.nonneg; pending = k.1 })),
               (λ h.
-              let k = m.1 h in
-              record { alive = k.1.alive; zero = k.1.zero; nonneg = k.1.nonneg; pending = p.1 (d.0 k.0, k.1.pending) }),
+                  let k = m.1 h in
+                  record { alive = k.1.alive; zero = k.1.zero; nonneg = k.1.nonneg; pending = p.1 (d.0 k.0, k.1.pending) }),
             );
       }
 
@@ -137,11 +141,12 @@ dead_or false b e = inr e
 close_parted : (Given : Values → Type 0) (s : State) → IsReady Given s → (s.conditions.dead || is_refuted s.facts s.conditions) ≡ true → IsParted Given s []
 close_parted Given s r e = record {
   same = tt;
+  tuples = tt;
   ready = tt;
   some = λ v one given. (
     (λ h.
-    ⊎_elim (λ d. true≢false (sym d ∙ h.alive)) (λ f. refuted-so v one s.facts (r.facts v one given) s.conditions f h)
-    (dead_or s.conditions.dead (is_refuted s.facts s.conditions) e)),
+        ⊎_elim (λ d. true≢false (sym d ∙ h.alive)) (λ f. refuted-so v one s.facts (r.facts v one given) s.conditions f h)
+        (dead_or s.conditions.dead (is_refuted s.facts s.conditions) e)),
     (λ h. absurd h),
   );
 }

@@ -1,24 +1,21 @@
 -- What the codes of formulas, of lets and of needs compute, over names of columns.
-use Rattle.std.proofs.Common.{◌≡◌, ℕ, ◌≤◌, ◌^◌, ℤ, pos, List, [], ◌∷◌, length, Some, refl, sym, ◌∙◌, cond, inl, inr, ⊎_elim, ◌⊎◌, ◌↔◌, arith}
+use Rattle.std.proofs.Common.{◌≡◌, ◌≤◌, ◌^◌, pos, List, [], ◌∷◌, length, refl, cond, inl, inr, ⊎_elim, ◌⊎◌, ◌↔◌}
 use Rattle.std.specs.Prelude.{Bool, true, false, not, ◌&&◌, ◌||◌, int_lt}
 use Rattle.std.specs.Ordering.{int_eq}
 use Rattle.std.proofs.lemmas.Bool.{and_parts}
 use Rattle.cf_tree.specs.declared.base.Base.{Base}
 use Rattle.cf_tree.specs.declared.base.Base.TheVariants.{Bool as IsTruth}
 use Rattle.cf_tree.specs.declared.base.Order.TheVariants.{Eq, Ge}
-use Rattle.cf_tree.specs.CodeTree.{CodeTree, code_lit, code_truth, code_compare, code_and, code_or, code_divides}
+use Rattle.cf_tree.specs.CodeTree.{CodeTree, code_lit, code_truth, code_compare, code_and, code_or}
 use Rattle.cf_tree.specs.Meaning.{got, Path, gives_truth, path}
-use Rattle.cf_tree.specs.Numbers.{is_multiple}
-use Rattle.cf_tree.specs.Relation.{IsDivisor}
 use Rattle.cf_tree.specs.Spelled.{IsSpelled}
 use Rattle.cf_tree.specs.Typing.{one, ask, HasBases, HasNoSolve}
 use Rattle.cf_tree.specs.Values.{Value, truth, HaveBases}
 use Rattle.cf_linear.specs.Arm.{ColumnLevels, row_code}
 use Rattle.cf_linear.specs.Keep.{Over}
-use Rattle.cf_linear.specs.Relations.{Divides}
 use Rattle.cf_linear.specs.Rows.{Row, Values, value, AreWithin}
 use Rattle.cf_choose.specs.CaseArms.{seen}
-use Rattle.cf_choose.proofs.ItemLemmas.{Tests, nonneg_tests, zero_tests, divides_tests, nonneg_need, zero_need, divides_need}
+use Rattle.cf_choose.proofs.ItemLemmas.{Tests, nonneg_tests, zero_tests, nonneg_need, zero_need}
 use Rattle.cf_choose.proofs.RowCodes.{HasName, AreNumbers, row_computes}
 use Rattle.cf_formula.specs.Formulas.{Formula, always, never, at_least, equal, both, either, Holds, EachAtom}
 use Rattle.cf_plan.specs.Leaves.{formula_code, and_onto, or_onto}

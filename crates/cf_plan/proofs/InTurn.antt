@@ -2,28 +2,13 @@
 use Rattle.std.proofs.Common.{◌≡◌, ℕ, ◌==◌, ℤ, List, [], ◌∷◌, ◌⊎◌, inl, inr, ⊎_elim, refl, sym, ap, subst, ◌∙◌}
 use Rattle.std.specs.Int.{int_div_euclid}
 use Rattle.std.proofs.lemmas.Bool.{eqb-true, eq-eqb, ne_eqb}
-use Rattle.cf_linear.specs.Keep.{In, Over, update}
-use Rattle.cf_linear.specs.Relations.{Divides}
-use Rattle.cf_linear.specs.Rows.{Row, Values, value}
+use Rattle.cf_linear.specs.Keep.{In, update}
+use Rattle.cf_linear.specs.Rows.{Values, value}
 use Rattle.cf_linear.proofs.BoolLemmas.{on_bool}
-use Rattle.cf_formula.specs.Formulas.{Formula}
 use Rattle.cf_formula.specs.Items.{Item, floor_of, need, need_divides, AllMet}
 use Rattle.cf_formula.proofs.FormulaLemmas.{AgreeOn, value-on, Holds-on}
-use Rattle.cf_plan.proofs.ItemCodes.{after_item, after_items, NeedsHold, ItemsOver}
-
--- the columns of the lets
-abbrev pub let_columns : List Item → List ℕ
-let_columns [] = []
-let_columns (floor_of c r g ∷ ms) = c ∷ let_columns ms
-let_columns (need f ∷ ms) = let_columns ms
-let_columns (need_divides g r ∷ ms) = let_columns ms
-
--- each let has a column that no row before it has
-abbrev pub ItemsNew : (ℕ → Type 0) → List Item → Type 0
-ItemsNew Q [] = Unit {0}
-ItemsNew Q (floor_of c r g ∷ ms) = (Q c → ⊥) × ItemsNew (λ d. (d ≡ c) ⊎ Q d) ms
-ItemsNew Q (need f ∷ ms) = ItemsNew Q ms
-ItemsNew Q (need_divides g r ∷ ms) = ItemsNew Q ms
+use Rattle.cf_plan.specs.Made.{let_columns, ItemsOver, ItemsNew}
+use Rattle.cf_plan.proofs.ItemCodes.{after_items, NeedsHold}
 
 let_same : (Q : ℕ → Type 0) (v w : Values) (c : ℕ) (z : ℤ) → AgreeOn Q v w → z ≡ w c → AgreeOn (λ d. (d ≡ c) ⊎ Q d) (update v c z) w
 let_same Q v w c z s e d (inl i) = rw (eq-eqb d c i) (e ∙ ap w (sym i))

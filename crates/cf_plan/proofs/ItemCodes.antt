@@ -1,5 +1,5 @@
 -- The code of lets and needs: what it leads to, and the values of the columns there.
-use Rattle.std.proofs.Common.{◌≡◌, ◌↔◌, ℕ, ◌+◌, ◌≤◌, ◌^◌, ℤ, List, [], ◌∷◌, ◌++◌, ◌⊎◌, inl, inr, length, Some, refl, sym, ap, arith, ◌∙◌, length-append, append-nil, append_assoc}
+use Rattle.std.proofs.Common.{◌≡◌, ◌↔◌, ℕ, ◌≤◌, ◌^◌, ℤ, List, [], ◌∷◌, ◌++◌, ◌⊎◌, inl, inr, length, Some, refl, sym, ap, arith, ◌∙◌, length-append, append-nil, append_assoc}
 use Rattle.std.specs.Prelude.{slice_get, None, Bool, true}
 use Rattle.std.specs.Int.{int_div_euclid}
 use Rattle.std.specs.List.{fold}
@@ -12,7 +12,7 @@ use Rattle.cf_tree.specs.Spelled.{AreItemsSpelled}
 use Rattle.cf_tree.specs.Typing.{ItemsHave, ItemsHaveNoSolve}
 use Rattle.cf_tree.specs.Values.{Value, number, HaveBases}
 use Rattle.cf_linear.specs.Arm.{ColumnLevels, row_code, ArmBuilder, let_named, need as need_code}
-use Rattle.cf_linear.specs.Keep.{In, Over, update}
+use Rattle.cf_linear.specs.Keep.{Over, update}
 use Rattle.cf_linear.specs.Relations.{Divides}
 use Rattle.cf_linear.specs.Rows.{Row, Values, value, AreWithin}
 use Rattle.cf_linear.proofs.KindLemmas.{Over-weaker}
@@ -22,8 +22,9 @@ use Rattle.cf_choose.proofs.ItemLemmas.{Leads, leads_forth, leads_back, have_the
 use Rattle.cf_choose.proofs.RowCodes.{HasName, AreNumbers, Computes, deeper, row_computes, div_computes}
 use Rattle.cf_formula.specs.Formulas.{Formula, always, never, at_least, equal, both, either, Holds, Throughout, EachAtom}
 use Rattle.cf_formula.specs.Items.{Item, floor_of, need, need_divides}
-use Rattle.cf_formula.proofs.FormulaLemmas.{Throughout-weaker}
+use Rattle.cf_formula.proofs.FormulaLemmas.{value-on, Throughout-weaker}
 use Rattle.cf_plan.specs.Leaves.{formula_code, with_item}
+use Rattle.cf_plan.specs.Made.{ItemsOver}
 use Rattle.cf_plan.proofs.FormulaCodes.{truth_at, truth-holds, Tells, tells, formula_tells}
 
 -- ---- items one after the other
@@ -56,13 +57,6 @@ abbrev pub ItemsWritten : List Item → Type 0
 ItemsWritten [] = Unit {0}
 ItemsWritten (m ∷ ms) = ItemWritten m × ItemsWritten ms
 
--- each row has columns of the kind, or of earlier lets
-abbrev pub ItemsOver : (ℕ → Type 0) → List Item → Type 0
-ItemsOver Q [] = Unit {0}
-ItemsOver Q (floor_of c r g ∷ ms) = (1 ≤ c) × Over Q r × ItemsOver (λ d. (d ≡ c) ⊎ Q d) ms
-ItemsOver Q (need f ∷ ms) = Throughout Q f × ItemsOver Q ms
-ItemsOver Q (need_divides g r ∷ ms) = Over Q r × ItemsOver Q ms
-
 -- ---- formulas over names
 coded : (names : ColumnLevels) (f : Formula) → Throughout (HasName names) f → EachAtom AreWithin f → EachAtom (λ r. Over (HasName names) r × AreWithin r) f
 coded names always o w = tt
@@ -72,9 +66,8 @@ coded names (equal r) o w = (o, w)
 coded names (both f g) o w = (coded names f o.0 w.0, coded names g o.1 w.1)
 coded names (either f g) o w = (coded names f o.0 w.0, coded names g o.1 w.1)
 
-value_agrees : (names : ColumnLevels) (e : List Value) (v : Values) (r : Row) → Over (HasName names) r → Agrees names e v → value (seen names e) r ≡ value v r
-value_agrees names e v [] o a = refl
-value_agrees names e v ((c, k) ∷ r) o a = rw (a c o.0, value_agrees names e v r o.1 a) refl
+pub value_agrees : (names : ColumnLevels) (e : List Value) (v : Values) (r : Row) → Over (HasName names) r → Agrees names e v → value (seen names e) r ≡ value v r
+value_agrees names e v r o a = value-on (HasName names) (seen names e) v a r o
 
 truth_agrees : (names : ColumnLevels) (e : List Value) (v : Values) (f : Formula) → Throughout (HasName names) f → Agrees names e v →
     truth_at (seen names e) f ≡ truth_at v f
@@ -137,7 +130,7 @@ pub record Goes (scope from : List Base) (k k' : ArmBuilder) (Holds : Values →
       (e : List Value) × Leads k.items env e × ((more : List Value) × (d ≡ e ++ more)) ×
       ((v : Values) → Agrees k.names e v → Holds v × Agrees k'.names d (next v))
 
-goes_none : (scope bases : List Base) (k : ArmBuilder) → IsLaid scope k bases → Goes scope bases k k (λ _. Unit {0}) (λ v. v)
+pub goes_none : (scope bases : List Base) (k : ArmBuilder) → IsLaid scope k bases → Goes scope bases k k (λ _. Unit {0}) (λ v. v)
 goes_none scope bases k m = record {
   bases = bases;
   kept = λ x b e. e;
@@ -147,7 +140,7 @@ goes_none scope bases k m = record {
   back = λ env d have l. (d, l, ([], sym (append-nil d)), λ v a. (tt, a));
 }
 
-goes_then : (scope from : List Base) (k j i : ArmBuilder) (P Q : Values → Type 0) (f g : Values → Values) (p : Goes scope from k j P f) →
+pub goes_then : (scope from : List Base) (k j i : ArmBuilder) (P Q : Values → Type 0) (f g : Values → Values) (p : Goes scope from k j P f) →
     Goes scope p.bases j i Q g → Goes scope from k i (λ v. P v × Q (f v)) (λ v. g (f v))
 goes_then scope from k j i P Q f g p q = record {
   bases = q.bases;
@@ -165,7 +158,7 @@ goes_then scope from k j i P Q f g p q = record {
       );
 }
 
-goes_let : (scope bases : List Base) (k : ArmBuilder) (c : ℕ) (code : CodeTree) (w : List Value → ℤ) (f : Values → ℤ) → 1 ≤ c →
+pub goes_let : (scope bases : List Base) (k : ArmBuilder) (c : ℕ) (code : CodeTree) (w : List Value → ℤ) (f : Values → ℤ) → 1 ≤ c →
     Computes 6 bases code w → IsLaid scope k bases →
     ((e : List Value) (v : Values) → Agrees k.names e v → w e ≡ f v) → Goes scope bases k (let_named k c code) (λ _. Unit {0}) (λ v. update v c (f v))
 goes_let scope bases k c code w f some h m same = record {

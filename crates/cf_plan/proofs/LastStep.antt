@@ -1,30 +1,32 @@
 -- The last unknown of an equation, beside pending formulas.
-use Rattle.std.proofs.Common.{◌≡◌, ◌≢◌, ℕ, zero, suc, ◌+◌, ◌<◌, ◌==◌, ℤ, pos, negsuc, neg_ℤ, ◌+ℤ◌, ◌*ℤ◌, List, [], ◌∷◌, ◌++◌, map, take, drop, slice_get, unsigned_abs, Bool, true, false, not, cond, Option, Some, None, Ok, refl, sym, ◌∙◌, ap, arith, subst, ◌⊎◌, inl, inr, ⊎_elim, ◌↔◌, zero-le}
+use Rattle.std.proofs.Common.{◌≡◌, ◌≢◌, ℕ, zero, suc, ◌+◌, ◌<◌, ◌≤◌, ◌==◌, ℤ, pos, negsuc, neg_ℤ, ◌+ℤ◌, ◌*ℤ◌, List, [], ◌∷◌, ◌++◌, map, take, drop, slice_get, unsigned_abs, Bool, true, false, cond, Option, Some, None, Ok, refl, sym, ◌∙◌, ap, arith, subst, ◌⊎◌, inl, inr, ⊎_elim, ◌↔◌, zero-le}
 use Rattle.std.specs.Prelude.{◌≤ℤ◌}
 use Rattle.std.specs.Int.{int_div_euclid}
 use Rattle.std.proofs.lemmas.Int.{ints}
-use Rattle.std.proofs.lemmas.Bool.{cond_both}
+use Rattle.std.proofs.lemmas.Bool.{cond_both, eqb-true, eqb-false}
+use Rattle.std.proofs.lemmas.List.Elements.{All-nil}
 use Rattle.cf_num.proofs.Ring.{ring}
 use Rattle.cf_num.proofs.DivisionLemmas.{int_div_euclid_once}
 use Rattle.cf_linear.specs.declared.refusal.Refusal.TheVariants.{Past}
 use Rattle.cf_linear.specs.Keep.{In, Over, update, after_back, Formed, Reaches}
 use Rattle.cf_linear.specs.Relations.{Divides}
-use Rattle.cf_linear.specs.Rows.{Row, Values, entry, value, comb, without, Rises}
+use Rattle.cf_linear.specs.Rows.{Row, Values, entry, value, comb, without}
 use Rattle.cf_linear.specs.Solved.{Owes}
 use Rattle.cf_linear.specs.Steps.{present, one_at, is_unit, is_positive, solved_row, last}
-use Rattle.cf_linear.specs.Systems.{System, EachRow, Sat, Answer, floor_of as step_floor, need_divides as step_divides}
+use Rattle.cf_linear.specs.Systems.{System, EachRow, floor_of as step_floor, need_divides as step_divides}
 use Rattle.cf_linear.proofs.BoolLemmas.{on_bool}
 use Rattle.cf_linear.proofs.CombLemmas.{Rises-comb, Rises-without}
 use Rattle.cf_linear.proofs.FormedLemmas.{low_from}
-use Rattle.cf_linear.proofs.KindLemmas.{IsZero, IsNonneg, Over-weaker, Over-comb, Over-without, In-filter, In-unfilter, In-append, In-left, In-right}
+use Rattle.cf_linear.proofs.KindLemmas.{IsZero, Over-weaker, Over-comb, Over-without, In-filter, In-unfilter, In-append, In-left, In-right}
 use Rattle.cf_linear.proofs.RowLemmas.{value-comb}
-use Rattle.cf_linear.proofs.ValueLemmas.{update-at, update-other, one_z}
+use Rattle.cf_linear.proofs.ValueLemmas.{update-at, one_z}
 use Rattle.cf_equation.proofs.EndLaws.{last-unit, last-divided, unit_reaches, divided_reaches}
 use Rattle.cf_equation.proofs.StepLaws.{In-present, only_unknown, last_owes}
-use Rattle.cf_formula.specs.Branches.{IsOfKnown, GivenIn, Grows, Leads}
-use Rattle.cf_formula.specs.Formulas.{Formula, Holds}
-use Rattle.cf_formula.specs.Items.{Item, item_of, AllMet, EachItemOver}
-use Rattle.cf_formula.specs.States.{Conditions, Model, whole, changed, Columns, State, Next, branch_of}
+use Rattle.cf_elim.proofs.SearchLaws.{IsSome}
+use Rattle.cf_formula.specs.Branches.{GivenIn, Grows, Leads}
+use Rattle.cf_formula.specs.Formulas.{Holds}
+use Rattle.cf_formula.specs.Items.{item_of, AllMet, EachItemOver}
+use Rattle.cf_formula.specs.States.{Conditions, whole, changed, Columns, State, Next, branch_of}
 use Rattle.cf_formula.specs.Turns.{subst_rows, backs}
 use Rattle.cf_formula.proofs.BranchLaws.{given_in_known}
 use Rattle.cf_formula.proofs.ItemLaws.{items_met}
@@ -32,22 +34,29 @@ use Rattle.cf_formula.proofs.StateLaws.{whole-holds, changed-holds}
 use Rattle.cf_formula.proofs.SubstitutionLaws.{Finds, gone_leads}
 use Rattle.cf_formula.proofs.TurnLaws.{value-subst_rows}
 use Rattle.cf_plan.specs.declared.why.Why.TheVariants.{Refused}
-use Rattle.cf_plan.specs.Laws.{IsColumn, AreColumns, IsRowOver, AreOver}
+use Rattle.cf_plan.specs.Laws.{IsColumn, IsRowOver, AreOver}
+use Rattle.cf_plan.specs.Made.{IsMadeFrom}
 use Rattle.cf_plan.specs.Plans.{act_last}
 use Rattle.cf_plan.specs.Ready.{IsReady, IsLawfulAt}
 use Rattle.cf_plan.specs.Stepping.{gone_passes, without_equation, without_column, unit_next, divided_next, last_next, last_of, last_at, stepped}
 use Rattle.cf_plan.proofs.BoundLaws.{with_facts-hold}
 use Rattle.cf_plan.proofs.ConditionLaws.{changed-over}
-use Rattle.cf_plan.proofs.ReadyLaws.{ready_same, not_rejected, counted_so, whole_below, lets_wider}
+use Rattle.cf_plan.proofs.ReadyLaws.{ready_same, not_rejected, counted_so, filter_gone, some_unless, whole_below, lets_wider}
 use Rattle.cf_plan.proofs.StepLaws.{subst_over}
 
 -- ---- one of a list of rows
-row_and_rest : (P : Row → Type 0) (rows : List Row) (i : ℕ) (e : Row) → slice_get rows i ≡ Some e → EachRow P rows ↔ (P e × EachRow P (take i rows ++ drop (suc i) rows))
+row_and_rest : (P : Row → Type 0) (rows : List Row) (i : ℕ) (e : Row) → slice_get rows i ≡ Some e →
+    EachRow P rows ↔ (P e × EachRow P (take i rows ++ drop (suc i) rows))
 row_and_rest P [] i e s = cc
 row_and_rest P (r ∷ rows) zero e s = let q : r ≡ e = cc in ((λ h. (subst P q h.0, h.1)), (λ h. (subst P (sym q) h.0, h.1)))
 row_and_rest P (r ∷ rows) (suc i) e s =
     let q = row_and_rest P rows i e s in
     ((λ h. let k = q.0 h.1 in (k.0, (h.0, k.1))), (λ h. (h.1.0, q.1 (h.0, h.1.1))))
+
+size_some : (k : ℤ) → k ≢ pos 0 → 0 < unsigned_abs k
+size_some (pos zero) h = absurd (h refl)
+size_some (pos (suc n)) h = omega arith
+size_some (negsuc n) h = omega arith
 
 -- ---- the step
 module _ (Given : Values → Type 0) (s : State) (r : IsReady Given s) (i : ℕ) (e : Row) (u : ℕ) (found : slice_get s.conditions.equations i ≡ Some e)
@@ -138,18 +147,18 @@ module _ (Given : Values → Type 0) (s : State) (r : IsReady Given s) (i : ℕ)
       })
 
   leads_on : (more : List ℕ) → Grows s.columns.known (record {
-        known = more;
-        bounds = [];
-        items = map item_of (last single e [] u).steps;
-        formula = whole (changed (subst_rows ((u, row) ∷ [])) rest);
-        back = backs ((u, row) ∷ []);
-      }) → Leads s.columns.known Given (whole s.conditions) (record {
-        known = more;
-        bounds = [];
-        items = map item_of (last single e [] u).steps;
-        formula = whole (changed (subst_rows ((u, row) ∷ [])) rest);
-        back = backs ((u, row) ∷ []);
-      } ∷ [])
+    known = more;
+    bounds = [];
+    items = map item_of (last single e [] u).steps;
+    formula = whole (changed (subst_rows ((u, row) ∷ [])) rest);
+    back = backs ((u, row) ∷ []);
+  }) → Leads s.columns.known Given (whole s.conditions) (record {
+    known = more;
+    bounds = [];
+    items = map item_of (last single e [] u).steps;
+    formula = whole (changed (subst_rows ((u, row) ∷ [])) rest);
+    back = backs ((u, row) ∷ []);
+  } ∷ [])
   leads_on more grows =
       gone_leads s.columns.known Given u s.columns.next (whole s.conditions) (whole_below Given s r) r.columns.constant u_apart r.columns.below more row []
       (map item_of (last single e [] u).steps) (whole (changed (subst_rows ((u, row) ∷ [])) rest)) grows into out
@@ -168,6 +177,16 @@ module _ (Given : Values → Type 0) (s : State) (r : IsReady Given s) (i : ℕ)
       Over-weaker (λ c. (In c s.columns.known ⊎ (c ≡ u)) × (c ≢ u)) (λ c. In c s.columns.known) (λ c q. ⊎_elim (λ k. k) (λ k. absurd (q.1 k)) q.0)
       (without u e) (Over-without (λ c. In c s.columns.known ⊎ (c ≡ u)) u e (only_unknown single e u is_over.0 is_over.1 alone))
 
+  -- ---- the unknown goes
+  u_some : 1 ≤ u
+  u_some = some_unless u (λ q. u_apart 0 r.columns.constant q)
+
+  u_left : (c : ℕ) → In c (u ∷ []) → In c s.columns.unknown
+  u_left c h = ⊎_elim (λ (q : c ≡ u). subst (λ z. In z s.columns.unknown) (sym q) held.0) (λ j. absurd j) h
+
+  u_covers : (c : ℕ) → In c s.columns.unknown → In c (without_column u s.columns.unknown) ⊎ In c (u ∷ [])
+  u_covers c k = on_bool (c == u) (λ t. inr (inl (eqb-true c u t))) (λ t. inl (In-filter c u s.columns.unknown k (eqb-false c u t)))
+
   -- ---- with coefficient 1 or -1
   module _ (unit : is_unit (entry e u) ≡ true) where
     unit_steps : map item_of (last single e [] u).steps ≡ []
@@ -184,18 +203,37 @@ module _ (Given : Values → Type 0) (s : State) (r : IsReady Given s) (i : ℕ)
         ))
         (λ f. let q : true ≡ false = sym unit ∙ f in cc)
 
+    unit_made : IsMadeFrom s.columns s.tuples (unit_next (entry e u) (without u e) u rest s)
+    unit_made = record {
+      next = omega arith;
+      searches = omega arith;
+      known = λ c k. inr (inl k);
+      fresh = λ c q. ⊎_elim (λ h. ⊎_elim (λ k. inl (inl k)) (λ k. inl (inr (In-unfilter c u s.columns.unknown k))) h) (λ h. inl (inr (u_left c h))) q;
+      over = tt;
+      new = tt;
+      divide = tt;
+      covers = u_covers;
+      back_over = (u_some, unit_row.0, tt);
+      back_new = ((λ q. ⊎_elim (λ k. u_apart u k refl) (λ k. filter_gone u s.columns.unknown k) q), tt);
+      back_divides = (tt, tt);
+      back_old = λ c h. r.columns.unknown_below c (u_left c h);
+      bounds = All-nil IsSome;
+      counted = refl;
+      few = λ l. l;
+    }
+
     unit_lawful : IsLawfulAt Given s (unit_next (entry e u) (without u e) u rest s)
     unit_lawful =
         let n = unit_next (entry e u) (without u e) u rest s in
         let Q = IsColumn n.state.columns in
         record {
           leads = subst (λ ms. Leads s.columns.known Given (whole s.conditions) (record {
-                known = s.columns.known;
-                bounds = [];
-                items = ms;
-                formula = whole (changed (subst_rows ((u, row) ∷ [])) rest);
-                back = backs ((u, row) ∷ []);
-              } ∷ [])) unit_steps
+            known = s.columns.known;
+            bounds = [];
+            items = ms;
+            formula = whole (changed (subst_rows ((u, row) ∷ [])) rest);
+            back = backs ((u, row) ∷ []);
+          } ∷ [])) unit_steps
               (leads_on s.columns.known (record {
                 grows = λ c k. k;
                 bounds_known = λ c j. absurd j;
@@ -216,6 +254,7 @@ module _ (Given : Values → Type 0) (s : State) (r : IsReady Given s) (i : ℕ)
             lets = r.lets;
             lets_known = r.lets_known;
           });
+          made = unit_made;
         }
 
   -- ---- with another coefficient
@@ -251,19 +290,52 @@ module _ (Given : Values → Type 0) (s : State) (r : IsReady Given s) (i : ℕ)
             let f = int_div_euclid_once z (pos n) div.0 (omega (arith, ints)) (omega (arith, ints, div.1)) (omega (arith, ints, div.1)) in
             rw (at, f) div.1
 
-        size_some : (k : ℤ) → k ≢ pos 0 → 0 < unsigned_abs k
-        size_some (pos zero) h = absurd (h refl)
-        size_some (pos (suc n)) h = omega arith
-        size_some (negsuc n) h = omega arith
-
     other_grows : Grows s.columns.known (branch_of (divided_next (entry e u) (without u e) u rest s))
     other_grows = record {
       grows = λ c k. In-left c s.columns.known (d ∷ []) k;
       bounds_known = λ c j. absurd j;
       items_known =
-          let o = Over-weaker (λ c. In c s.columns.known) (λ c. In c (s.columns.known ++ (d ∷ []))) (λ c k. In-left c s.columns.known (d ∷ []) k) (without u e) others_known in
+          let o = Over-weaker (λ c. In c s.columns.known) (λ c. In c (s.columns.known ++ (d ∷ []))) (λ c k. In-left c s.columns.known (d ∷ []) k) (without u e)
+          others_known in
           (o, ((In-right d s.columns.known (d ∷ []) (inl refl), o), tt));
     }
+
+    other_made : IsMadeFrom s.columns s.tuples (divided_next (entry e u) (without u e) u rest s)
+    other_made =
+        let Q : ℕ → Type 0 = λ c. In c s.columns.known ⊎ In c [] in
+        let o = Over-weaker (λ c. In c s.columns.known) Q (λ c k. inl k) (without u e) others_known in
+        let low = r.columns.below 0 r.columns.constant in
+        let large = size_some (entry e u) held.1 in
+        record {
+          next = omega arith;
+          searches = omega arith;
+          known = λ c k.
+              ⊎_elim (λ j. inr (inl j)) (λ j. ⊎_elim (λ (q : c ≡ d). inl (inl q)) (λ q. absurd q) j) (In-append c s.columns.known (d ∷ []) k);
+          fresh = λ c q.
+              ⊎_elim
+              (λ h. ⊎_elim
+              (λ k. ⊎_elim (λ j. inl (inl j)) (λ j. ⊎_elim (λ (p : c ≡ d). inr (omega arith)) (λ p. absurd p) j) (In-append c s.columns.known (d ∷ []) k))
+              (λ k. inl (inr (In-unfilter c u s.columns.unknown k))) h)
+              (λ h. inl (inr (u_left c h))) q;
+          over = (o, (omega arith, o, tt));
+          new = ((λ q. ⊎_elim (λ k. let l = r.columns.below d k in absurd (omega arith)) (λ k. k) q), tt);
+          divide = (omega (arith, ints), (omega (arith, ints), tt));
+          covers = u_covers;
+          back_over = (u_some, other_row.0, tt);
+          back_new = (
+            (λ q. ⊎_elim
+                (λ k. ⊎_elim (λ j. u_apart u j refl)
+                (λ j. ⊎_elim (λ (p : u ≡ d). let l = r.columns.unknown_below u held.0 in absurd (omega arith)) (λ p. p) j)
+                (In-append u s.columns.known (d ∷ []) k))
+                (λ k. filter_gone u s.columns.unknown k) q),
+            tt,
+          );
+          back_divides = (tt, tt);
+          back_old = λ c h. let l = r.columns.unknown_below c (u_left c h) in omega arith;
+          bounds = All-nil IsSome;
+          counted = refl;
+          few = λ l. l;
+        }
 
     other_lawful : IsLawfulAt Given s (divided_next (entry e u) (without u e) u rest s)
     other_lawful =
@@ -271,12 +343,12 @@ module _ (Given : Values → Type 0) (s : State) (r : IsReady Given s) (i : ℕ)
         let Q = IsColumn wider in
         record {
           leads = subst (λ ms. Leads s.columns.known Given (whole s.conditions) (record {
-                known = s.columns.known ++ (d ∷ []);
-                bounds = [];
-                items = ms;
-                formula = whole (changed (subst_rows ((u, row) ∷ [])) rest);
-                back = backs ((u, row) ∷ []);
-              } ∷ [])) other_steps
+            known = s.columns.known ++ (d ∷ []);
+            bounds = [];
+            items = ms;
+            formula = whole (changed (subst_rows ((u, row) ∷ [])) rest);
+            back = backs ((u, row) ∷ []);
+          } ∷ [])) other_steps
               (leads_on (s.columns.known ++ (d ∷ [])) (record {
                 grows = other_grows.grows;
                 bounds_known = λ c j. absurd j;
@@ -296,7 +368,8 @@ module _ (Given : Values → Type 0) (s : State) (r : IsReady Given s) (i : ℕ)
             };
             conditions = changed-over Q (inl (In-left 0 s.columns.known (d ∷ []) r.columns.constant)) (IsColumn s.columns) (subst_rows ((u, row) ∷ []))
                 (λ q o. subst_over (IsColumn s.columns) Q u row
-                (λ c p a. ⊎_elim (λ k. inl (In-left c s.columns.known (d ∷ []) k)) (λ k. inr (In-filter c u s.columns.unknown k a)) p) other_row q o) rest rest_over;
+                (λ c p a. ⊎_elim (λ k. inl (In-left c s.columns.known (d ∷ []) k)) (λ k. inr (In-filter c u s.columns.unknown k a)) p) other_row q o) rest
+                rest_over;
             of_known = given_in_known s.columns.known Given (branch_of n) r.of_known other_grows;
             facts = λ v one given.
                 let div = given.2.0 in
@@ -310,6 +383,7 @@ module _ (Given : Values → Type 0) (s : State) (r : IsReady Given s) (i : ℕ)
             lets = λ v one given. r.lets v one given.0;
             lets_known = lets_wider s.columns.known (s.columns.known ++ (d ∷ [])) (λ c k. In-left c s.columns.known (d ∷ []) k) s.shared r.lets_known;
           };
+          made = other_made;
         }
       where
         minus : (z g q : ℤ) → z ≡ g *ℤ q → pos 0 ≤ℤ (pos 1 *ℤ z +ℤ neg_ℤ g *ℤ q)
@@ -321,7 +395,8 @@ module _ (Given : Values → Type 0) (s : State) (r : IsReady Given s) (i : ℕ)
   last_lawful_at : IsLawfulAt Given s (last_next (entry e u) (without u e) u rest s)
   last_lawful_at = cond_both (is_unit (entry e u)) _ _ (IsLawfulAt Given s) (λ t. unit_lawful t) (λ f. other_lawful f)
 
-last_of_so : (Given : Values → Type 0) (s : State) (r : IsReady Given s) (i : ℕ) (e : Row) (us : List ℕ) (n : Next) → slice_get s.conditions.equations i ≡ Some e →
+last_of_so : (Given : Values → Type 0) (s : State) (r : IsReady Given s) (i : ℕ) (e : Row) (us : List ℕ) (n : Next) →
+    slice_get s.conditions.equations i ≡ Some e →
     present s.columns.unknown e ≡ us → last_of i e us s ≡ Ok n → IsLawfulAt Given s n
 last_of_so Given s r i e [] n g p h = cc h
 last_of_so Given s r i e (u ∷ []) n g p h =

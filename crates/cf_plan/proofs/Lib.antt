@@ -5,6 +5,7 @@ pub mod FormulaCodes
 pub mod InTurn
 pub mod ItemCodes
 pub mod LastStep
+pub mod MadeLaws
 pub mod NeedLaws
 pub mod PlanExamples
 pub mod PlanLaws

@@ -1,34 +1,36 @@
 -- Clean: what holds no unknown becomes a need.
-use Rattle.std.proofs.Common.{◌≡◌, ℕ, pos, neg_ℤ, List, [], ◌∷◌, ◌++◌, map, Bool, true, false, not, cond, ◌&&◌, refl, sym, ◌∙◌, arith, subst, ◌⊎◌, inl, inr, ⊎_elim, ◌↔◌, true≢false}
-use Rattle.std.specs.Prelude.{◌≤ℤ◌, filter}
+use Rattle.std.proofs.Common.{◌≡◌, ℕ, pos, List, [], ◌∷◌, ◌++◌, map, Bool, true, false, not, cond, ◌&&◌, refl, sym, ◌∙◌, arith, ◌⊎◌, inl, ⊎_elim, ◌↔◌, true≢false}
+use Rattle.std.specs.Prelude.{filter}
 use Rattle.std.specs.List.{fold, list_any}
 use Rattle.std.proofs.lemmas.Int.{ints}
 use Rattle.std.proofs.lemmas.Bool.{cond_both, and_parts, or_parts}
 use Rattle.cf_linear.specs.Arm.{negated}
 use Rattle.cf_linear.specs.Keep.{In, Over}
-use Rattle.cf_linear.specs.Rows.{Row, Values, value, Rises}
+use Rattle.cf_linear.specs.Rows.{Row, Values}
 use Rattle.cf_linear.specs.Steps.{has_column, has_unknown}
 use Rattle.cf_linear.specs.Systems.{EachRow}
 use Rattle.cf_linear.proofs.KindLemmas.{IsZero, IsNonneg, EachRow-filter, EachRow-unfilter, EachRow-tested, EachRow-with}
 use Rattle.cf_bounds.proofs.OwesLemmas.{has-in}
 use Rattle.cf_formula.specs.Atoms.{tight_row}
-use Rattle.cf_formula.specs.Branches.{IsOfKnown, GivenIn, Grows, Leads}
+use Rattle.cf_formula.specs.Branches.{Grows}
 use Rattle.cf_formula.specs.Facts.{is_implied}
 use Rattle.cf_formula.specs.Formulas.{Formula, always, never, at_least, equal, both, either, Holds, EachAtom, Throughout, EachFormula}
-use Rattle.cf_formula.specs.Items.{Item, need, AllMet, EachItemOver}
-use Rattle.cf_formula.specs.States.{Conditions, Model, whole, Columns, State, Next, branch_of}
+use Rattle.cf_formula.specs.Items.{need, AllMet}
+use Rattle.cf_formula.specs.States.{State, branch_of}
 use Rattle.cf_formula.proofs.AtomLaws.{tight-holds, value-negated}
 use Rattle.cf_formula.proofs.BranchLaws.{given_in_known}
 use Rattle.cf_formula.proofs.FactLaws.{implied-so}
-use Rattle.cf_formula.proofs.ItemLaws.{AllMet-append, AllMet-split, EachItemOver-append}
+use Rattle.cf_formula.proofs.ItemLaws.{AllMet-append, AllMet-split}
 use Rattle.cf_formula.proofs.OverLaws.{tight-kind}
 use Rattle.cf_formula.proofs.StateLaws.{whole-holds}
-use Rattle.cf_plan.specs.Cleaning.{with_facts, Needed, with_need, zero_needed, nonneg_needed, needs_of, needed_next, formula_needs, formulas_next}
+use Rattle.cf_plan.specs.Cleaning.{Needed, with_need, zero_needed, nonneg_needed, needs_of, needed_next, formula_needs, formulas_next}
 use Rattle.cf_plan.specs.Holding.{atom_rows, holds_unknown}
-use Rattle.cf_plan.specs.Laws.{IsColumn, IsRowOver, AreOver}
+use Rattle.cf_plan.specs.Laws.{IsColumn, IsRowOver}
+use Rattle.cf_plan.specs.Made.{AreNeeds}
 use Rattle.cf_plan.specs.Ready.{IsReady, IsLawfulAt}
 use Rattle.cf_plan.proofs.BoundLaws.{with_facts-hold}
 use Rattle.cf_plan.proofs.ConditionLaws.{row_kind}
+use Rattle.cf_plan.proofs.MadeLaws.{AreNeeds-append, needs_each, needs_made}
 
 -- ---- one need after the other
 -- what is said of the rows, where each step keeps facts and needs
@@ -69,7 +71,8 @@ module _ (v : Values) (one : v 0 ≡ pos 1) where
       cond_both (is_implied n.facts r && is_implied n.facts (negated r)) n (with_need n (equal r) (r ∷ negated r ∷ []))
       (λ k. AllMet v k.items → AllMet v n.items) (λ e m. m) (λ e m. (AllMet-split v n.items (need (equal r) ∷ []) m).0) m
 
-  zero_back : (n : Needed) (r : Row) → EachRow (IsNonneg v) n.facts → AllMet v (zero_needed n r).items → IsZero v r × EachRow (IsNonneg v) (zero_needed n r).facts
+  zero_back : (n : Needed) (r : Row) → EachRow (IsNonneg v) n.facts → AllMet v (zero_needed n r).items →
+      IsZero v r × EachRow (IsNonneg v) (zero_needed n r).facts
   zero_back n r f m =
       cond_both (is_implied n.facts r && is_implied n.facts (negated r)) n (with_need n (equal r) (r ∷ negated r ∷ []))
       (λ k. AllMet v k.items → IsZero v r × EachRow (IsNonneg v) k.facts)
@@ -115,20 +118,20 @@ none_over K us ((c, k) ∷ r) e o =
     let p = or_parts (has_column us c) (has_unknown us r) e in
     (⊎_elim (λ i. i) (λ i. absurd (true≢false (sym (has-in c us i) ∙ p.0))) o.0, none_over K us r p.1 o.1)
 
-items_over : (Q : ℕ → Type 0) (step : Needed → Row → Needed) → ((n : Needed) (r : Row) → IsRowOver Q r → EachItemOver Q n.items → EachItemOver Q (step n r).items) →
-    (rows : List Row) (n : Needed) → EachRow (IsRowOver Q) rows → EachItemOver Q n.items → EachItemOver Q (fold step n rows).items
-items_over Q step k [] n o h = h
-items_over Q step k (r ∷ rows) n o h = items_over Q step k rows (step n r) o.1 (k n r o.0 h)
+needs_over : (Q : ℕ → Type 0) (step : Needed → Row → Needed) → ((n : Needed) (r : Row) → IsRowOver Q r → AreNeeds Q n.items → AreNeeds Q (step n r).items) →
+    (rows : List Row) (n : Needed) → EachRow (IsRowOver Q) rows → AreNeeds Q n.items → AreNeeds Q (fold step n rows).items
+needs_over Q step k [] n o h = h
+needs_over Q step k (r ∷ rows) n o h = needs_over Q step k rows (step n r) o.1 (k n r o.0 h)
 
-zero_over : (Q : ℕ → Type 0) (n : Needed) (r : Row) → IsRowOver Q r → EachItemOver Q n.items → EachItemOver Q (zero_needed n r).items
+zero_over : (Q : ℕ → Type 0) (n : Needed) (r : Row) → IsRowOver Q r → AreNeeds Q n.items → AreNeeds Q (zero_needed n r).items
 zero_over Q n r o h =
-    cond_both (is_implied n.facts r && is_implied n.facts (negated r)) n (with_need n (equal r) (r ∷ negated r ∷ [])) (λ k. EachItemOver Q k.items) (λ e. h)
-    (λ e. EachItemOver-append Q Q (λ c q. q) n.items (need (equal r) ∷ []) h (o.0, tt))
+    cond_both (is_implied n.facts r && is_implied n.facts (negated r)) n (with_need n (equal r) (r ∷ negated r ∷ [])) (λ k. AreNeeds Q k.items) (λ e. h)
+    (λ e. AreNeeds-append Q n.items (need (equal r) ∷ []) h (o.0, tt))
 
-nonneg_over : (Q : ℕ → Type 0) → Q 0 → (n : Needed) (r : Row) → IsRowOver Q r → EachItemOver Q n.items → EachItemOver Q (nonneg_needed n r).items
+nonneg_over : (Q : ℕ → Type 0) → Q 0 → (n : Needed) (r : Row) → IsRowOver Q r → AreNeeds Q n.items → AreNeeds Q (nonneg_needed n r).items
 nonneg_over Q z n r o h =
-    cond_both (is_implied n.facts (tight_row r)) n (with_need n (at_least (tight_row r)) (tight_row r ∷ [])) (λ k. EachItemOver Q k.items) (λ e. h)
-    (λ e. EachItemOver-append Q Q (λ c q. q) n.items (need (at_least (tight_row r)) ∷ []) h ((tight-kind (IsRowOver Q) (row_kind Q z) r o).0, tt))
+    cond_both (is_implied n.facts (tight_row r)) n (with_need n (at_least (tight_row r)) (tight_row r ∷ [])) (λ k. AreNeeds Q k.items) (λ e. h)
+    (λ e. AreNeeds-append Q n.items (need (at_least (tight_row r)) ∷ []) h ((tight-kind (IsRowOver Q) (row_kind Q z) r o).0, tt))
 
 -- ---- the needs of rows
 module _ (Given : Values → Type 0) (s : State) (r : IsReady Given s) where
@@ -147,7 +150,8 @@ module _ (Given : Values → Type 0) (s : State) (r : IsReady Given s) where
   abbrev middle : Needed
   middle = fold zero_needed first zeros
 
-  known_rows : (rows : List Row) → EachRow (IsRowOver (IsColumn s.columns)) rows → EachRow (IsRowOver (λ c. In c s.columns.known)) (filter (λ q. not (has_unknown us q)) rows)
+  known_rows : (rows : List Row) → EachRow (IsRowOver (IsColumn s.columns)) rows →
+      EachRow (IsRowOver (λ c. In c s.columns.known)) (filter (λ q. not (has_unknown us q)) rows)
   known_rows rows o =
       EachRow-with (λ q. not (has_unknown us q) ≡ true) (IsRowOver (IsColumn s.columns)) (IsRowOver (λ c. In c s.columns.known))
       (λ q e p. (none_over (λ c. In c s.columns.known) us q (not_true (has_unknown us q) e) p.0, p.1)) (filter (λ q. not (has_unknown us q)) rows)
@@ -162,14 +166,17 @@ module _ (Given : Values → Type 0) (s : State) (r : IsReady Given s) where
       let n = all_back v nonneg_needed (IsNonneg v) (nonneg_forth v one) (nonneg_met v one) (nonneg_back v one) nonnegs middle z.1 met in
       (z.0, n.0, n.1)
 
+  are_needs : AreNeeds (λ c. In c s.columns.known) (needs_of s).items
+  are_needs =
+      let Q : ℕ → Type 0 = λ c. In c s.columns.known in
+      needs_over Q nonneg_needed (nonneg_over Q r.columns.constant) nonnegs middle (known_rows s.conditions.inequalities r.conditions.nonneg)
+      (needs_over Q zero_needed (zero_over Q) zeros first (known_rows s.conditions.equations r.conditions.zero) tt)
+
   needed_grows : Grows s.columns.known (branch_of (needed_next s))
   needed_grows = record {
     grows = λ c i. i;
     bounds_known = λ c i. absurd i;
-    items_known =
-        let Q : ℕ → Type 0 = λ c. In c s.columns.known in
-        items_over Q nonneg_needed (nonneg_over Q r.columns.constant) nonnegs middle (known_rows s.conditions.inequalities r.conditions.nonneg)
-        (items_over Q zero_needed (zero_over Q) zeros first (known_rows s.conditions.equations r.conditions.zero) tt);
+    items_known = needs_each (λ c. In c s.columns.known) (needs_of s).items are_needs;
   }
 
   pub needed_lawful : IsLawfulAt Given s (needed_next s)
@@ -223,6 +230,7 @@ module _ (Given : Values → Type 0) (s : State) (r : IsReady Given s) where
           lets = λ v one given. r.lets v one given.0;
           lets_known = r.lets_known;
         };
+        made = needs_made s.columns s.tuples (needs_of s).facts s.shared c (needed_next s).state.needs (needs_of s).items are_needs;
       }
 
 -- ---- the needs of formulas
@@ -230,7 +238,8 @@ each_filter : (P : Formula → Type 0) (p : Formula → Bool) (fs : List Formula
 each_filter P p [] h = tt
 each_filter P p (f ∷ fs) h = cond_both (p f) (f ∷ filter p fs) (filter p fs) (EachFormula P) (λ e. (h.0, each_filter P p fs h.1)) (λ e. each_filter P p fs h.1)
 
-each_unfilter : (P : Formula → Type 0) (p : Formula → Bool) (fs : List Formula) → EachFormula P (filter (λ f. not (p f)) fs) → EachFormula P (filter p fs) → EachFormula P fs
+each_unfilter : (P : Formula → Type 0) (p : Formula → Bool) (fs : List Formula) → EachFormula P (filter (λ f. not (p f)) fs) → EachFormula P (filter p fs) →
+    EachFormula P fs
 each_unfilter P p [] h k = tt
 each_unfilter P p (f ∷ fs) h k = by (p f) (each_unfilter P p fs) h k
   where
@@ -264,19 +273,22 @@ formula_known K xs (either f g) e t =
     let p = any_split (has_unknown xs) (atom_rows f) (atom_rows g) e in (formula_known K xs f p.0 t.0, formula_known K xs g p.1 t.1)
 
 formulas_over : (K : ℕ → Type 0) (xs : List ℕ) (fs : List Formula) → EachFormula (EachAtom (IsRowOver (λ c. K c ⊎ In c xs))) fs →
-    EachItemOver K (map need (filter (λ f. not (holds_unknown xs f)) fs))
+    AreNeeds K (map need (filter (λ f. not (holds_unknown xs f)) fs))
 formulas_over K xs [] t = tt
 formulas_over K xs (f ∷ fs) t =
     cond_both (not (holds_unknown xs f)) (f ∷ filter (λ g. not (holds_unknown xs g)) fs) (filter (λ g. not (holds_unknown xs g)) fs)
-    (λ gs. EachItemOver K (map need gs)) (λ e. (formula_known K xs f (not_true (holds_unknown xs f) e) t.0, formulas_over K xs fs t.1))
+    (λ gs. AreNeeds K (map need gs)) (λ e. (formula_known K xs f (not_true (holds_unknown xs f) e) t.0, formulas_over K xs fs t.1))
     (λ e. formulas_over K xs fs t.1)
 
 module _ (Given : Values → Type 0) (s : State) (r : IsReady Given s) where
+  are_formulas : AreNeeds (λ c. In c s.columns.known) (formula_needs s)
+  are_formulas = formulas_over (λ c. In c s.columns.known) s.columns.unknown s.conditions.pending r.conditions.pending
+
   formulas_grow : Grows s.columns.known (branch_of (formulas_next s))
   formulas_grow = record {
     grows = λ c i. i;
     bounds_known = λ c i. absurd i;
-    items_known = formulas_over (λ c. In c s.columns.known) s.columns.unknown s.conditions.pending r.conditions.pending;
+    items_known = needs_each (λ c. In c s.columns.known) (formula_needs s) are_formulas;
   }
 
   pub formulas_lawful : IsLawfulAt Given s (formulas_next s)
@@ -293,7 +305,13 @@ module _ (Given : Values → Type 0) (s : State) (r : IsReady Given s) where
                 (λ d i. refl),
                 tt,
                 (formulas_met v (filter bare s.conditions.pending)).1 (each_filter (Holds v) bare s.conditions.pending m.pending),
-                (whole-holds v c).1 (record { alive = m.alive; zero = m.zero; nonneg = m.nonneg; pending = each_filter (Holds v) held s.conditions.pending m.pending }),
+                (whole-holds v c).1 (record {
+                  alive = m.alive;
+                  zero = m.zero;
+                  nonneg = m.nonneg;
+                  pending =
+                      each_filter (Holds v) held s.conditions.pending m.pending;
+                }),
               );
           back = (
             (λ v one given w met h.
@@ -322,4 +340,5 @@ module _ (Given : Values → Type 0) (s : State) (r : IsReady Given s) where
           lets = λ v one given. r.lets v one given.0;
           lets_known = r.lets_known;
         };
+        made = needs_made s.columns s.tuples s.facts s.shared c (formulas_next s).state.needs (formula_needs s) are_formulas;
       }

@@ -1,5 +1,5 @@
 -- The law of every plan.
-use Rattle.std.proofs.Common.{◌≡◌, ℕ, pos, List, [], ◌∷◌, map, Ok, subst, inl, inr, ⊎_elim}
+use Rattle.std.proofs.Common.{◌≡◌, ℕ, List, [], ◌∷◌, map, Ok, subst, inl, inr, ⊎_elim}
 use Rattle.cf_linear.specs.declared.refusal.Refusal.TheVariants.{Past}
 use Rattle.cf_linear.specs.Keep.{after_back}
 use Rattle.cf_linear.specs.Rows.{Values}
@@ -23,7 +23,7 @@ use Rattle.cf_plan.proofs.TreeLaws.{then_lawful, plan_leads}
 use Rattle.cf_plan.proofs.TurnStep.{turn_lawful}
 
 -- nothing is given before the first state
-abbrev Nothing : Values → Type 0
+abbrev pub Nothing : Values → Type 0
 Nothing v = Unit {0}
 
 -- ---- clean
@@ -69,12 +69,12 @@ each_back : (k : Columns) (c : Conditions) (ns : List Next) → EachBranch (Come
 each_back k c [] h o = tt
 each_back k c (n ∷ ns) h o = (
   (λ v one wi met.
-  let q = h.0 v one tt wi met ((whole-holds v n.state.conditions).1 (o.0 v)) in
-  ((whole-holds (after_back v n.back) c).0 q.0, q.1)),
+      let q = h.0 v one tt wi met ((whole-holds v n.state.conditions).1 (o.0 v)) in
+      ((whole-holds (after_back v n.back) c).0 q.0, q.1)),
   each_back k c ns h.1 o.1,
 )
 
-first_ready : (k : Columns) (c : Conditions) → AreColumns k → AreOver (IsColumn k) c → IsReady Nothing (first_state k c)
+pub first_ready : (k : Columns) (c : Conditions) → AreColumns k → AreOver (IsColumn k) c → IsReady Nothing (first_state k c)
 first_ready k c a o = record {
   columns = a;
   conditions = o;

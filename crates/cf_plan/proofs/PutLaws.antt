@@ -1,13 +1,13 @@
 -- Rows of unknowns, put in the places of the unknowns: they have the values that the way back of a leaf computes.
-use Rattle.std.proofs.Common.{◌≡◌, ℕ, ◌==◌, ℤ, pos, neg_ℤ, ◌+ℤ◌, ◌*ℤ◌, ◌-ℤ◌, List, [], ◌∷◌, ◌⊎◌, inl, inr, ⊎_elim, map, Bool, true, false, cond, refl, sym, ap, subst, ◌∙◌, arith}
-use Rattle.std.specs.Prelude.{◌≤ℤ◌, ◌&&◌, int_lt}
+use Rattle.std.proofs.Common.{◌≡◌, ℕ, ◌==◌, ℤ, pos, neg_ℤ, ◌-ℤ◌, List, [], ◌∷◌, ◌⊎◌, inl, inr, ⊎_elim, map, true, false, refl, sym, ap, subst, ◌∙◌, arith}
+use Rattle.std.specs.Prelude.{◌≤ℤ◌, int_lt}
 use Rattle.std.specs.Int.{int_div_euclid, int_max, int_min}
 use Rattle.std.specs.List.{fold, list_any}
 use Rattle.std.proofs.lemmas.Bool.{cond_both, and_parts, eqb-true, eqb-false, eq-eqb, ne_eqb}
 use Rattle.std.proofs.lemmas.Int.{ints}
 use Rattle.cf_tree.proofs.SetLemmas.{lt_is, lt_not}
 use Rattle.cf_linear.specs.Keep.{Over, update, how_value, after_back}
-use Rattle.cf_linear.specs.Rows.{Row, Values, value, comb, is_zero, same_row}
+use Rattle.cf_linear.specs.Rows.{Row, Values, value, is_zero, same_row}
 use Rattle.cf_linear.specs.Steps.{one_at}
 use Rattle.cf_linear.specs.Systems.{How, row_how, greatest, least}
 use Rattle.cf_linear.proofs.BoolLemmas.{on_bool}

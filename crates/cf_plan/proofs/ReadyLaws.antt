@@ -1,19 +1,18 @@
 -- States on the way, and what is given in them.
-use Rattle.std.proofs.Common.{◌≡◌, ◌≢◌, ℕ, ℤ, ◌+◌, ◌<◌, pos, List, [], ◌∷◌, Bool, true, false, not, ◌&&◌, cond, Result, Ok, Err, ◌==◌, refl, sym, ◌∙◌, ap, arith, subst, ◌⊎◌, inl, inr, ⊎_elim, ◌↔◌, true≢false}
-use Rattle.std.specs.Prelude.{nat_lt}
-use Rattle.std.specs.List.{list_any, list_all}
-use Rattle.std.proofs.lemmas.Bool.{cond_both, eqb-true, eq-eqb, and_parts}
+use Rattle.std.proofs.Common.{◌≡◌, ◌≢◌, ℕ, zero, suc, ℤ, ◌<◌, ◌≤◌, List, [], ◌∷◌, Bool, true, false, not, Ok, ◌==◌, refl, sym, ◌∙◌, arith, ◌⊎◌, inl, inr, ⊎_elim, ◌↔◌, true≢false}
+use Rattle.std.specs.Prelude.{nat_lt, filter}
+use Rattle.std.specs.List.{list_all}
+use Rattle.std.proofs.lemmas.Bool.{cond_both, eqb-true, eq-eqb, ltb-false, and_parts}
 use Rattle.cf_linear.specs.declared.refusal.LimitKind.TheVariants.{Rows, Columns as ColumnLimit, Search}
 use Rattle.cf_linear.specs.declared.refusal.Refusal.TheVariants.{Limit}
 use Rattle.cf_linear.specs.declared.refusal.TheConstants.{MOST_ROWS, MOST_COLUMNS, MOST_TUPLES}
 use Rattle.cf_linear.specs.Keep.{In, Over, Formed}
-use Rattle.cf_linear.specs.Rows.{Row, Values, value, Rises}
+use Rattle.cf_linear.specs.Rows.{Row, Values, Rises}
 use Rattle.cf_linear.specs.Steps.{has_column, replaced}
-use Rattle.cf_linear.specs.Systems.{EachRow}
 use Rattle.cf_linear.proofs.BoolLemmas.{on_bool}
 use Rattle.cf_linear.proofs.KindLemmas.{EachRow-weaker, Over-weaker}
 use Rattle.cf_linear.proofs.ValueLemmas.{Within-append, Within-split}
-use Rattle.cf_formula.specs.Branches.{Branch, SameAt, IsOfKnown, GivenIn}
+use Rattle.cf_formula.specs.Branches.{GivenIn}
 use Rattle.cf_formula.specs.Formulas.{Formula, always, never, at_least, equal, both, either, EachAtom, Throughout, EachFormula}
 use Rattle.cf_formula.specs.States.{Conditions, whole, Columns, State, Next, branch_of, bare, then_next}
 use Rattle.cf_formula.proofs.ItemLaws.{AllMet-append, AllMet-split}
@@ -44,11 +43,10 @@ pub then_given : (Given : Values → Type 0) (a b : Next) (v : Values) →
 then_given Given a b v = (
   (λ h. (h.0.0, Within-append v a.bounds b.bounds h.0.1 h.1, AllMet-append v a.items b.items h.0.2 h.2)),
   (λ h.
-  let w = Within-split v a.bounds b.bounds h.1 in
-  let m = AllMet-split v a.items b.items h.2 in
-  ((h.0, w.0, m.0), w.1, m.1)),
+      let w = Within-split v a.bounds b.bounds h.1 in
+      let m = AllMet-split v a.items b.items h.2 in
+      ((h.0, w.0, m.0), w.1, m.1)),
 )
-
 
 -- ---- results
 pub is_true : (b : Bool) → not b ≡ false → b ≡ true
@@ -66,6 +64,13 @@ counted_so m n e =
     let c = not_rejected (nat_lt MOST_TUPLES m.state.tuples) (Refused (Limit Search m.state.tuples)) _ n b.1 in
     let d : ◌≡◌ {A = Stepped} (Ok m) (Ok n) = c.1 in
     cc d
+
+pub counted_few : (m n : Next) → counted m ≡ Ok n → m.state.tuples ≤ MOST_TUPLES
+counted_few m n e =
+    let a = not_rejected (nat_lt MOST_ROWS (row_count m.state)) (Refused (Limit Rows (row_count m.state))) _ n e in
+    let b = not_rejected (nat_lt MOST_COLUMNS (column_count m.state)) (Refused (Limit ColumnLimit (column_count m.state))) _ n a.1 in
+    let c = not_rejected (nat_lt MOST_TUPLES m.state.tuples) (Refused (Limit Search m.state.tuples)) _ n b.1 in
+    ltb-false MOST_TUPLES m.state.tuples c.0
 
 -- ---- columns
 pub column_in : (us : List ℕ) (x : ℕ) → has_column us x ≡ true → In x us
@@ -99,6 +104,25 @@ replaced_from c x y (u ∷ us) i =
     ⊎_elim
     (λ e. cond_both (u == x) y u (λ w. c ≡ w → (c ≡ y) ⊎ In c (u ∷ us)) (λ q d. inl d) (λ q d. inr (inl d)) e)
     (λ j. ⊎_elim (λ e. inl e) (λ k. inr (inr k)) (replaced_from c x y us j)) i
+
+-- a column that gave way is there no more, but as the new one
+pub replaced_gone : (x y : ℕ) (us : List ℕ) → In x (replaced x y us) → x ≡ y
+replaced_gone x y [] i = absurd i
+replaced_gone x y (u ∷ us) i =
+    ⊎_elim
+    (λ e. cond_both (u == x) y u (λ w. x ≡ w → x ≡ y) (λ q d. d) (λ q d. let f : u == x ≡ true = eq-eqb u x (sym d) in absurd (true≢false (sym f ∙ q))) e)
+    (λ j. replaced_gone x y us j) i
+
+pub filter_gone : (x : ℕ) (us : List ℕ) → In x (filter (λ w. not (w == x)) us) → ⊥
+filter_gone x [] i = i
+filter_gone x (u ∷ us) i =
+    on_bool (u == x) (λ e. filter_gone x us (rw e at i))
+    (λ e. ⊎_elim (λ (d : x ≡ u). let f : u == x ≡ true = eq-eqb u x (sym d) in true≢false (sym f ∙ e)) (λ j. filter_gone x us j) (rw e at i))
+
+-- the constant's column is no other
+pub some_unless : (x : ℕ) → (0 ≡ x → ⊥) → 1 ≤ x
+some_unless zero h = absurd (h refl)
+some_unless (suc n) h = omega arith
 
 -- ---- ready states
 pub column_below : (k : Columns) → AreColumns k → (c : ℕ) → IsColumn k c → c < k.next

@@ -1,43 +1,45 @@
 -- Clean: inequalities are rounded, and of parallel ones the nearest stays.
-use Rattle.std.proofs.Common.{◌≡◌, ◌≢◌, ℕ, zero, suc, ◌+◌, ◌<◌, ◌≤◌, ◌/◌, ◌%◌, ◌==◌, ℤ, pos, negsuc, neg_ℤ, ◌+ℤ◌, ◌-ℤ◌, ◌*ℤ◌, List, [], ◌∷◌, ◌++◌, length, Bool, true, false, not, cond, ◌&&◌, ◌||◌, Option, Some, None, refl, sym, ◌∙◌, ap, ap₂, arith, subst, ◌⊎◌, inl, inr, ⊎_elim, ◌↔◌, zero-le, true≢false}
-use Rattle.std.specs.Prelude.{◌≤ℤ◌, ◌<ℤ◌, nat_le, nat_lt, int_lt, filter}
+use Rattle.std.proofs.Common.{◌≡◌, ℕ, zero, suc, ◌<◌, ◌/◌, ◌%◌, ◌==◌, ℤ, pos, negsuc, neg_ℤ, ◌+ℤ◌, ◌-ℤ◌, ◌*ℤ◌, List, [], ◌∷◌, ◌++◌, length, Bool, true, false, not, cond, ◌&&◌, ◌||◌, Option, Some, None, refl, sym, ◌∙◌, ap, ap₂, arith, subst, ◌⊎◌, inl, inr, ⊎_elim, ◌↔◌, zero-le, true≢false}
+use Rattle.std.specs.Prelude.{◌≤ℤ◌, ◌<ℤ◌, nat_le, nat_lt, int_lt}
 use Rattle.std.specs.Int.{int_div_euclid, int_rem_euclid}
-use Rattle.std.specs.List.{fold, list_all}
+use Rattle.std.specs.List.{fold}
 use Rattle.std.proofs.lemmas.Int.{ints}
 use Rattle.std.proofs.lemmas.Bool.{cond_both, and_parts, eqb-true, eqb-false, leb-false}
+use Rattle.std.proofs.lemmas.List.Elements.{All-nil}
 use Rattle.std.proofs.Math.Nat.{div-add-mod}
 use Rattle.cf_num.proofs.Ring.{ring}
 use Rattle.cf_num.proofs.DivisionLemmas.{int_div_euclid-bounds}
 use Rattle.cf_linear.specs.Keep.{In, Over, update, Same}
 use Rattle.cf_linear.specs.Relations.{Divides}
 use Rattle.cf_linear.specs.RowParts.{divides_known}
-use Rattle.cf_linear.specs.Rows.{Row, Values, entry, value, is_zero, comb, put, same_row, Rises}
+use Rattle.cf_linear.specs.Rows.{Row, Values, entry, value, is_zero, comb, put, same_row}
 use Rattle.cf_linear.specs.Steps.{has_column, unknown_part, known_part, common, divided, divides_it, one_at}
 use Rattle.cf_linear.specs.Systems.{EachRow}
 use Rattle.cf_linear.specs.Written.{plus}
 use Rattle.cf_linear.proofs.BoolLemmas.{on_bool}
-use Rattle.cf_linear.proofs.KindLemmas.{IsZero, IsNonneg, EachRow-append, EachRow-split, EachRow-weaker, Over-filter, Over-weaker, Over-comb, Rises-filter, In-append, In-left, In-right}
+use Rattle.cf_linear.proofs.KindLemmas.{IsNonneg, EachRow-append, EachRow-split, Over-filter, Over-weaker, Rises-filter, In-append, In-left, In-right}
 use Rattle.cf_linear.proofs.RowLemmas.{value-comb, value-put, zero_from_is_zero}
 use Rattle.cf_linear.proofs.RowTests.{same_row-is}
 use Rattle.cf_linear.proofs.ValueLemmas.{value-same, value-parts, update-at, update-same, one_z}
 use Rattle.cf_bounds.proofs.OwesLemmas.{has-in}
+use Rattle.cf_elim.proofs.SearchLaws.{IsSome}
 use Rattle.cf_formula.specs.Atoms.{key, rounded}
-use Rattle.cf_formula.specs.Branches.{SameAt, IsOfKnown, GivenIn, Grows, Leads}
-use Rattle.cf_formula.specs.Formulas.{Formula, Holds, EachAtom, Throughout, EachFormula}
-use Rattle.cf_formula.specs.Items.{floor_of}
-use Rattle.cf_formula.specs.States.{Conditions, Model, whole, Columns, State, Next, branch_of, bare, then_next}
+use Rattle.cf_formula.specs.Branches.{SameAt, GivenIn, Grows}
+use Rattle.cf_formula.specs.States.{Model, whole, State, Next, branch_of, bare}
 use Rattle.cf_formula.proofs.AtomLaws.{EntriesDiv, common-divides, value-divided, value-key, lt_so, not_lt_so}
 use Rattle.cf_formula.proofs.BranchLaws.{given_in_known}
-use Rattle.cf_formula.proofs.FormulaLemmas.{then_iff, Holds-same}
+use Rattle.cf_formula.proofs.FormulaLemmas.{Holds-same}
 use Rattle.cf_formula.proofs.OrLaws.{same_leads}
 use Rattle.cf_formula.proofs.OverLaws.{rounded-kind}
 use Rattle.cf_formula.proofs.Rounding.{tighten}
 use Rattle.cf_formula.proofs.StateLaws.{whole-holds}
-use Rattle.cf_plan.specs.Cleaning.{floor_rows, shared_let, quotient_row, with_last, with_let, let_rounded, row_rounded, first_rounded, rounded_times, rounded_next, with_least, least_rows, least_next}
-use Rattle.cf_plan.specs.Laws.{IsColumn, AreColumns, IsRowOver, AreOver}
+use Rattle.cf_plan.specs.Cleaning.{floor_rows, shared_let, quotient_row, with_last, with_let, let_rounded, row_rounded, first_rounded, rounded_times, rounded_next, with_least, least_next}
+use Rattle.cf_plan.specs.Laws.{IsColumn, IsRowOver, AreOver}
+use Rattle.cf_plan.specs.Made.{IsMadeFrom}
 use Rattle.cf_plan.specs.Ready.{IsComputed, EachLet, IsReady, IsLawfulAt}
 use Rattle.cf_plan.proofs.BoundLaws.{with_facts-hold}
 use Rattle.cf_plan.proofs.ConditionLaws.{row_kind}
+use Rattle.cf_plan.proofs.MadeLaws.{bare_made}
 use Rattle.cf_plan.proofs.ReadyLaws.{ready_same, bare_given, over_weaker, whole_below, lets_wider}
 use Rattle.cf_plan.proofs.TreeLaws.{bare_lawful, then_lawful}
 
@@ -88,7 +90,8 @@ module _ (v : Values) (one : v 0 ≡ pos 1) where
 
   -- the row with a column that holds the quotient of its known part
   quotient_iff : (us : List ℕ) (r : Row) (d : ℕ) → 0 < common (unknown_part us r) →
-      v d ≡ int_div_euclid (value v (known_part us r)) (pos (common (unknown_part us r))) → IsNonneg v (quotient_row us (common (unknown_part us r)) r d) ↔ IsNonneg v r
+      v d ≡ int_div_euclid (value v (known_part us r)) (pos (common (unknown_part us r))) →
+      IsNonneg v (quotient_row us (common (unknown_part us r)) r d) ↔ IsNonneg v r
   quotient_iff us r d h at =
       let g = common (unknown_part us r) in
       let u = value v (divided g (unknown_part us r)) in
@@ -111,7 +114,7 @@ module _ (v : Values) (one : v 0 ≡ pos 1) where
       value-comb v (negsuc 0) k (pos g) (one_at d) ∙ rw (one_z (v d)) refl in
       let n : value v (put 0 (pos g -ℤ pos 1) []) ≡ (pos g -ℤ pos 1) *ℤ pos 1 +ℤ pos 0 = value-put v 0 (pos g -ℤ pos 1) [] ∙ rw one refl in
       let e : value v (plus (comb (negsuc 0) k (pos g) (one_at d)) (pos g -ℤ pos 1)) ≡
-          pos 1 *ℤ (negsuc 0 *ℤ z +ℤ pos g *ℤ v d) +ℤ pos 1 *ℤ ((pos g -ℤ pos 1) *ℤ pos 1 +ℤ pos 0) =
+      pos 1 *ℤ (negsuc 0 *ℤ z +ℤ pos g *ℤ v d) +ℤ pos 1 *ℤ ((pos g -ℤ pos 1) *ℤ pos 1 +ℤ pos 0) =
       value-comb v (pos 1) (comb (negsuc 0) k (pos g) (one_at d)) (pos 1) (put 0 (pos g -ℤ pos 1) []) ∙ rw (c, n) refl in (
         rw a (low z (pos g) (v d) (subst (λ q. (pos g *ℤ q) ≤ℤ z) (sym at) b.0)),
         (rw e (high z (pos g) (v d) (subst (λ q. z <ℤ (pos g *ℤ q +ℤ pos g)) (sym at) b.1)), tt),
@@ -138,7 +141,8 @@ shared_so v ((c, s, m) ∷ shared) k g d h e =
     subst (λ x. v x ≡ int_div_euclid (value v k) g) b (h.0 ∙ ap₂ (λ x y. int_div_euclid (value v x) y) (same_row-is s k p.0) w))
     (λ i. shared_so v shared k g d h.1 (rw i at e))
 
-shared_in : (known : List ℕ) (shared : List (ℕ × Row × ℤ)) (k : Row) (g : ℤ) (d : ℕ) → EachLet (λ (d, r, g). In d known) shared → shared_let shared k g ≡ Some d →
+shared_in : (known : List ℕ) (shared : List (ℕ × Row × ℤ)) (k : Row) (g : ℤ) (d : ℕ) → EachLet (λ (d, r, g). In d known) shared →
+    shared_let shared k g ≡ Some d →
     In d known
 shared_in known [] k g d h e = cc e
 shared_in known ((c, s, m) ∷ shared) k g d h e =
@@ -181,11 +185,11 @@ module _ (Given : Values → Type 0) (s : State) (ready : IsReady Given s) (r : 
   last_model : (v : Values) (q : Row) → IsNonneg v q ↔ IsNonneg v r → Model (with_last rest q s).conditions v ↔ Model s.conditions v
   last_model v q e = (
     (λ m.
-    let p = EachRow-split (IsNonneg v) rest (q ∷ []) m.nonneg in
-    record { alive = m.alive; zero = m.zero; nonneg = subst (EachRow (IsNonneg v)) (sym is) (e.0 p.1.0, p.0); pending = m.pending }),
+        let p = EachRow-split (IsNonneg v) rest (q ∷ []) m.nonneg in
+        record { alive = m.alive; zero = m.zero; nonneg = subst (EachRow (IsNonneg v)) (sym is) (e.0 p.1.0, p.0); pending = m.pending }),
     (λ m.
-    let p = subst (EachRow (IsNonneg v)) is m.nonneg in
-    record { alive = m.alive; zero = m.zero; nonneg = EachRow-append (IsNonneg v) rest (q ∷ []) p.1 (e.1 p.0, tt); pending = m.pending }),
+        let p = subst (EachRow (IsNonneg v)) is m.nonneg in
+        record { alive = m.alive; zero = m.zero; nonneg = EachRow-append (IsNonneg v) rest (q ∷ []) p.1 (e.1 p.0, tt); pending = m.pending }),
   )
 
   -- a row in the place of r that makes no let
@@ -197,7 +201,9 @@ module _ (Given : Values → Type 0) (s : State) (ready : IsReady Given s) (r : 
         let j = whole-holds v (with_last rest q s).conditions in
         let k = last_model v q (e v one given) in
         ((λ h. j.1 (k.1 (i.0 h))), (λ h. i.1 (k.0 (j.0 h)))));
-    ready = ready_same Given (GivenIn Given (branch_of (bare (with_last rest q s)))) (with_last rest q s) (bare_given Given (with_last rest q s)) (last_ready q o);
+    ready = ready_same Given (GivenIn Given (branch_of (bare (with_last rest q s)))) (with_last rest q s) (bare_given Given (with_last rest q s))
+        (last_ready q o);
+    made = bare_made (with_last rest q s);
   }
 
   abbrev g : ℕ
@@ -237,8 +243,14 @@ module _ (Given : Values → Type 0) (s : State) (ready : IsReady Given s) (r : 
     let_grows = record {
       grows = λ c k. In-left c s.columns.known (d ∷ []) k;
       bounds_known = λ c k. absurd k;
-      items_known = ((In-right d s.columns.known (d ∷ []) (inl refl), Over-weaker (λ c. In c s.columns.known) (λ c. In c (s.columns.known ++ (d ∷ [])))
-          (λ c k. In-left c s.columns.known (d ∷ []) k) known known_is), tt);
+      items_known = (
+        (
+          In-right d s.columns.known (d ∷ []) (inl refl),
+          Over-weaker (λ c. In c s.columns.known) (λ c. In c (s.columns.known ++ (d ∷ [])))
+              (λ c k. In-left c s.columns.known (d ∷ []) k) known known_is,
+        ),
+        tt,
+      );
     }
 
     let_forth : (v : Values) → v 0 ≡ pos 1 → Model s.conditions v →
@@ -253,6 +265,31 @@ module _ (Given : Values → Type 0) (s : State) (ready : IsReady Given s) (r : 
         let old = (whole-holds w s.conditions).0 (Holds-same d v w same (whole s.conditions) (whole_below Given s ready) ((whole-holds v s.conditions).1 m)) in
         (w, (λ c k. same c (ready.columns.below c k)), at, (last_model w row (quotient_iff w there s.columns.unknown r d large at)).1 old)
 
+    let_made : IsMadeFrom s.columns s.tuples new
+    let_made =
+        let low = ready.columns.below 0 ready.columns.constant in
+        let split : (c : ℕ) → In c (s.columns.known ++ (d ∷ [])) → In c s.columns.known ⊎ (c ≡ d) = λ c k.
+        ⊎_elim (λ j. inl j) (λ j. ⊎_elim (λ q. inr q) (λ q. absurd q) j) (In-append c s.columns.known (d ∷ []) k) in
+        record {
+          next = omega arith;
+          searches = omega arith;
+          known = λ c k. ⊎_elim (λ j. inr (inl j)) (λ q. inl (inl q)) (split c k);
+          fresh = λ c q.
+              ⊎_elim
+              (λ h. ⊎_elim (λ k. ⊎_elim (λ j. inl (inl j)) (λ (p : c ≡ d). inr (omega arith)) (split c k)) (λ u. inl (inr u)) h) (λ h. absurd h) q;
+          over = (omega arith, Over-weaker (λ c. In c s.columns.known) (λ c. In c s.columns.known ⊎ In c []) (λ c k. inl k) known known_is, tt);
+          new = ((λ q. ⊎_elim (λ k. let l = ready.columns.below d k in absurd (omega arith)) (λ k. k) q), tt);
+          divide = (omega (arith, ints), tt);
+          covers = λ c u. inl u;
+          back_over = tt;
+          back_new = tt;
+          back_divides = tt;
+          back_old = λ c h. absurd h;
+          bounds = All-nil IsSome;
+          counted = refl;
+          few = λ l. l;
+        }
+
     let_lawful : IsLawfulAt Given s new
     let_lawful = record {
       leads = record {
@@ -261,10 +298,10 @@ module _ (Given : Values → Type 0) (s : State) (ready : IsReady Given s) (r : 
             inl (f.0, f.1, tt, (f.2, tt), (whole-holds f.0 new.state.conditions).1 f.3);
         back = (
           (λ v one given w met h. (
-              (whole-holds v s.conditions).1
-                  ((last_model v row (quotient_iff v one s.columns.unknown r d large met.0)).0 ((whole-holds v new.state.conditions).0 h)),
-              λ c k. refl,
-            )),
+            (whole-holds v s.conditions).1
+                ((last_model v row (quotient_iff v one s.columns.unknown r d large met.0)).0 ((whole-holds v new.state.conditions).0 h)),
+            λ c k. refl,
+          )),
           tt,
         );
         formed = (let_grows, tt);
@@ -285,8 +322,11 @@ module _ (Given : Values → Type 0) (s : State) (ready : IsReady Given s) (r : 
             let o = over_weaker (IsColumn s.columns) R wider s.conditions ready.conditions in
             record {
               zero = o.zero;
-              nonneg = EachRow-append (IsRowOver R) rest (row ∷ []) (subst (EachRow (IsRowOver R)) is o.nonneg).1
-                  (quotient_over R (inl (In-left 0 s.columns.known (d ∷ []) ready.columns.constant)) wider d (inl (In-right d s.columns.known (d ∷ []) (inl refl))), tt);
+              nonneg = EachRow-append (IsRowOver R) rest (row ∷ []) (subst (EachRow (IsRowOver R)) is o.nonneg).1 (
+                quotient_over R (inl (In-left 0 s.columns.known (d ∷ []) ready.columns.constant)) wider d
+                    (inl (In-right d s.columns.known (d ∷ []) (inl refl))),
+                tt,
+              );
               pending = o.pending;
             };
         of_known = given_in_known s.columns.known Given (branch_of new) ready.of_known let_grows;
@@ -298,6 +338,7 @@ module _ (Given : Values → Type 0) (s : State) (ready : IsReady Given s) (r : 
           lets_wider s.columns.known (s.columns.known ++ (d ∷ [])) (λ c k. In-left c s.columns.known (d ∷ []) k) s.shared ready.lets_known,
         );
       };
+      made = let_made;
     }
 
   -- ---- any row
@@ -305,7 +346,8 @@ module _ (Given : Values → Type 0) (s : State) (ready : IsReady Given s) (r : 
   let_so large None e = let_lawful large
   let_so large (Some d) e =
       last_lawful (quotient_row s.columns.unknown g r d)
-      (quotient_over (IsColumn s.columns) (inl ready.columns.constant) (λ c q. q) d (inl (shared_in s.columns.known s.shared known (pos g) d ready.lets_known e)))
+      (quotient_over (IsColumn s.columns) (inl ready.columns.constant) (λ c q. q) d
+      (inl (shared_in s.columns.known s.shared known (pos g) d ready.lets_known e)))
       (λ v one given. quotient_iff v one s.columns.unknown r d large (shared_so v s.shared known (pos g) d (ready.lets v one given) e))
 
   row_lawful : IsLawfulAt Given s (row_rounded r rest s)
@@ -322,7 +364,8 @@ module _ (Given : Values → Type 0) (s : State) (ready : IsReady Given s) (r : 
       (λ i. let_so large (shared_let s.shared known (pos g)) refl))
 
 -- ---- all rows
-first_lawful : (Given : Values → Type 0) (s : State) → IsReady Given s → (rows : List Row) → s.conditions.inequalities ≡ rows → IsLawfulAt Given s (first_rounded rows s)
+first_lawful : (Given : Values → Type 0) (s : State) → IsReady Given s → (rows : List Row) → s.conditions.inequalities ≡ rows →
+    IsLawfulAt Given s (first_rounded rows s)
 first_lawful Given s r [] e = bare_lawful Given s r
 first_lawful Given s r (q ∷ rest) e = row_lawful Given s r q rest e
 
@@ -354,7 +397,8 @@ least-each v one (s ∷ rows) r =
     (λ i. let l = not_lt_so (entry r 0) (entry s 0) (rw i refl) in ((λ h. let p = h.0 in (omega (arith, ints), (h.0, h.1))), (λ h. (h.1.0, h.1.1)))))
     (λ e. ((λ h. let p = again.0 h.1 in (p.0, (h.0, p.1))), (λ h. (h.1.0, again.1 (h.0, h.1.1)))))
 
-least_all : (v : Values) → v 0 ≡ pos 1 → (rows done : List Row) → EachRow (IsNonneg v) (fold with_least done rows) ↔ (EachRow (IsNonneg v) done × EachRow (IsNonneg v) rows)
+least_all : (v : Values) → v 0 ≡ pos 1 → (rows done : List Row) →
+    EachRow (IsNonneg v) (fold with_least done rows) ↔ (EachRow (IsNonneg v) done × EachRow (IsNonneg v) rows)
 least_all v one [] done = ((λ h. (h, tt)), (λ h. h.0))
 least_all v one (r ∷ rows) done =
     let i = least_all v one rows (with_least done r) in
@@ -394,4 +438,5 @@ least_lawful Given s r =
         lets = r.lets;
         lets_known = r.lets_known;
       });
+      made = bare_made (least_next s).state;
     }

@@ -1,6 +1,6 @@
 -- A plan that is taken from the first state of a choose solves its relation.
-use Rattle.std.proofs.Common.{◌≡◌, ℕ, ◌+◌, ◌<◌, ◌≤◌, pos, List, [], ◌∷◌, refl, sym, ◌∙◌, arith, inl, inr, ⊎_elim, ◌⊎◌}
-use Rattle.std.specs.Prelude.{◌-◌, ◌^◌, length, Ok}
+use Rattle.std.proofs.Common.{◌≡◌, ℕ, ◌<◌, ◌≤◌, pos, List, [], ◌∷◌, sym, ◌∙◌, arith, inl, inr, ⊎_elim, ◌⊎◌}
+use Rattle.std.specs.Prelude.{◌-◌, length, Ok}
 use Rattle.std.specs.List.{range_with_len}
 use Rattle.std.proofs.lemmas.Bool.{cases_lt}
 use Rattle.std.proofs.lemmas.Nat.{pow_pos}
@@ -8,9 +8,9 @@ use Rattle.cf_tree.specs.declared.base.Base.{Base}
 use Rattle.cf_tree.specs.RelTree.{RelTree}
 use Rattle.cf_tree.specs.Relation.{Holds, IsTyped}
 use Rattle.cf_tree.specs.Values.{Value}
-use Rattle.cf_linear.specs.Keep.{In, Over, Same, Within, after_back}
+use Rattle.cf_linear.specs.Keep.{In, Same, Within, after_back}
 use Rattle.cf_linear.specs.Layout.{Layout, known_count, first_free, set_count}
-use Rattle.cf_linear.specs.Rows.{Row, Values, Rises}
+use Rattle.cf_linear.specs.Rows.{Values, Rises}
 use Rattle.cf_cases.specs.Holding.{AreCounts, IsPlacedRel}
 use Rattle.cf_cases.proofs.AgreeLaws.{FormsAgree}
 use Rattle.cf_cases.proofs.FormedLaws.{In-range, range-In}
@@ -18,13 +18,13 @@ use Rattle.cf_formula.specs.Branches.{SameAt}
 use Rattle.cf_formula.specs.Formulas.{Formula, always, never, at_least, equal, both, either, Throughout, EachAtom}
 use Rattle.cf_formula.specs.Items.{AllMet}
 use Rattle.cf_formula.specs.Simplifying.{simplified}
-use Rattle.cf_formula.specs.States.{Conditions, Model, Next, no_conditions}
+use Rattle.cf_formula.specs.States.{Next, no_conditions}
 use Rattle.cf_formula.specs.Writing.{written, first_columns, first_conditions}
-use Rattle.cf_formula.proofs.FirstLaws.{RelationAt, relation-agrees, written_are, written-rises, first-forth, first-back}
+use Rattle.cf_formula.proofs.FirstLaws.{relation-agrees, written_are, written-rises, first-forth, first-back}
 use Rattle.cf_formula.proofs.FormulaLemmas.{Throughout-weaker}
 use Rattle.cf_formula.proofs.SimplifyLaws.{simplified-holds}
 use Rattle.cf_plan.specs.Following.{Progress, follow, no_progress}
-use Rattle.cf_plan.specs.Laws.{IsColumn, AreColumns, IsRowOver, AreOver, first_state, IsPlan, EachNext, SomeNext, IsReached, LeadsBack, AreSolvedBy}
+use Rattle.cf_plan.specs.Laws.{IsColumn, AreColumns, IsRowOver, AreOver, first_state, IsPlan, EachNext, SomeNext, IsReached, LeadsBack}
 use Rattle.cf_plan.specs.Plans.{PlanTree}
 use Rattle.cf_plan.proofs.ConditionLaws.{add-over, simplified-over}
 use Rattle.cf_plan.proofs.PlanLaws.{every_plan_solves}
@@ -73,14 +73,17 @@ first-over l rel p =
     (add-over Q (inl c) f no_conditions (both_kinds Q f low (written-rises l rel p)) (record { zero = tt; nonneg = tt; pending = tt }))
 
 -- ---- a plan that is taken
+-- wherever the lets and needs of the leaf are met, its way back leads to values at which the relation holds
+abbrev pub LeadsTo : Layout → RelTree → Next → Type 0
+LeadsTo l rel n =
+    (v : Values) → v 0 ≡ pos 1 → Within v n.bounds → AllMet v n.items → AreCounts l (after_back v n.back) ×
+    SameAt (first_columns l rel).known v (after_back v n.back) × ((env : List Value) → FormsAgree l env (after_back v n.back) → Holds rel env)
+
 -- a leaf is reached where the relation holds, and each one leads back to values where it does
 pub record Solves (scope : List Base) (l : Layout) (rel : RelTree) (leaves : List Next) : Type 0 where
   pub reached : (env : List Value) (v : Values) → v 0 ≡ pos 1 → FormsAgree l env v → AreCounts l v → Holds rel env →
       SomeNext (IsReached (first_columns l rel).known v) leaves
-  pub back : EachNext
-      (λ n.
-      (v : Values) → v 0 ≡ pos 1 → Within v n.bounds → AllMet v n.items → AreCounts l (after_back v n.back) ×
-      SameAt (first_columns l rel).known v (after_back v n.back) × ((env : List Value) → FormsAgree l env (after_back v n.back) → Holds rel env)) leaves
+  pub back : EachNext (LeadsTo l rel) leaves
 
 still_known : (l : Layout) (v u : Values) → Same (first_free l) v u → SameAt (range_with_len 0 (known_count l)) v u
 still_known l v u s c h = let r = range-In 0 (known_count l) c h in let free = known_free l in s c (omega arith)
@@ -93,7 +96,8 @@ some-next : (P Q : Next → Type 0) → ((n : Next) → P n → Q n) → (ns : L
 some-next P Q f [] h = h
 some-next P Q f (n ∷ ns) h = ⊎_elim (λ a. inl (f n a)) (λ a. inr (some-next P Q f ns a)) h
 
-pub plan-solves : (scope : List Base) (l : Layout) (rel : RelTree) → IsTyped scope rel → IsPlacedRel l rel → (t : PlanTree) (r : List Next × Progress) → IsPlan t →
+pub plan-solves : (scope : List Base) (l : Layout) (rel : RelTree) → IsTyped scope rel → IsPlacedRel l rel → (t : PlanTree) (r : List Next × Progress) →
+    IsPlan t →
     follow t no_progress (first_state (first_columns l rel) (simplified [] (first_conditions l rel))) ≡ Ok r → Solves scope l rel r.0
 plan-solves scope l rel ty p t r w e =
     let k = first_columns l rel in
@@ -107,10 +111,7 @@ plan-solves scope l rel ty p t r w e =
           let there = sym (known 0 columns.constant) ∙ one in
           some-next (IsReached k.known a.0) (IsReached k.known v) (λ m q. (q.0, (λ d i. known d i ∙ q.1 d i), q.2, q.3)) r.0
           (s.reached a.0 there ((simplified-holds a.0 there [] tt (first_conditions l rel)).1 a.2));
-      back = each-next (LeadsBack k c)
-          (λ n.
-          (v : Values) → v 0 ≡ pos 1 → Within v n.bounds → AllMet v n.items → AreCounts l (after_back v n.back) ×
-          SameAt k.known v (after_back v n.back) × ((env : List Value) → FormsAgree l env (after_back v n.back) → Holds rel env))
+      back = each-next (LeadsBack k c) (LeadsTo l rel)
           (λ n q v one i m.
           let u = after_back v n.back in
           let b = q v one i m in

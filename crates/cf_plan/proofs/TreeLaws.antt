@@ -1,32 +1,30 @@
 -- The law of every plan from the laws of its steps.
-use Rattle.std.proofs.Common.{◌≡◌, ℕ, suc, ◌+◌, pos, ◌==◌, List, [], ◌∷◌, ◌++◌, length, map, Bool, true, false, not, ◌||◌, cond, take, drop, slice_get, Option, Some, None, Result, Ok, Err, refl, sym, ◌∙◌, ap, arith, subst, ◌⊎◌, inl, inr, ⊎_elim, ◌↔◌, true≢false, append-nil}
+use Rattle.std.proofs.Common.{◌≡◌, ℕ, ◌+◌, pos, List, [], ◌∷◌, ◌++◌, length, map, Bool, true, false, not, ◌||◌, Result, Ok, Err, refl, sym, ◌∙◌, ap, arith, subst, inl, inr, ⊎_elim, append-nil}
 use Rattle.std.specs.Prelude.{nat_lt}
-use Rattle.std.proofs.lemmas.Bool.{cond_both, ltb-false}
+use Rattle.std.proofs.lemmas.Bool.{ltb-false}
 use Rattle.std.proofs.lemmas.List.{map-append}
-use Rattle.cf_linear.specs.Keep.{In, Within, after_back}
+use Rattle.cf_linear.specs.Keep.{In, after_back}
 use Rattle.cf_linear.specs.Rows.{Row, Values}
 use Rattle.cf_linear.specs.Systems.{EachRow}
 use Rattle.cf_linear.proofs.BoolLemmas.{on_bool}
-use Rattle.cf_linear.proofs.ValueLemmas.{Within-append, Within-split}
-use Rattle.cf_formula.specs.Branches.{Branch, EachBranch, SomeBranch, SameAt, IsOfKnown, GivenIn, GoesOn, ComesBack, Grows, Leads, then_branch, plain}
-use Rattle.cf_formula.specs.Formulas.{Formula, Holds, Throughout, EachFormula, SomeFormula}
-use Rattle.cf_formula.specs.Members.{disjuncts}
-use Rattle.cf_formula.specs.Simplifying.{is_refuted}
-use Rattle.cf_formula.specs.States.{Conditions, Model, add, whole, Columns, State, Next, branch_of, bare, then_next, with_conditions}
-use Rattle.cf_formula.proofs.BranchLaws.{EachBranch-append, SomeBranch-left, SomeBranch-right, given_in_known, then_leads}
-use Rattle.cf_formula.proofs.ItemLaws.{AllMet-append, AllMet-split}
-use Rattle.cf_formula.proofs.OrLaws.{same_leads, plain_grows}
+use Rattle.cf_formula.specs.Branches.{Branch, EachBranch, SomeBranch, IsOfKnown, GivenIn, GoesOn, ComesBack, Grows, Leads, then_branch}
+use Rattle.cf_formula.specs.Formulas.{Formula, EachFormula}
+use Rattle.cf_formula.specs.States.{Conditions, Model, whole, Columns, State, Next, branch_of, bare, then_next}
+use Rattle.cf_formula.proofs.BranchLaws.{EachBranch-append, SomeBranch-left, SomeBranch-right, then_leads}
+use Rattle.cf_formula.proofs.OrLaws.{same_leads}
 use Rattle.cf_formula.proofs.StateLaws.{whole-holds}
 use Rattle.cf_plan.specs.declared.limits.TheConstants.{MOST_LEAVES, MOST_STEPS}
 use Rattle.cf_plan.specs.declared.why.Why.{Why}
 use Rattle.cf_plan.specs.declared.why.Why.TheVariants.{Leaves, Steps}
 use Rattle.cf_plan.specs.Following.{Fault, Progress, on_ok, placed, after_first, steps_of, Ended, leaf, branches, is_over, ended, plan_count, Followed, then_leaves, before_leaves, begun, leaf_at, at_end, follow, follow_all}
 use Rattle.cf_plan.specs.Laws.{IsAct, EachAct, IsPlan, ArePlans, EachNext}
+use Rattle.cf_plan.specs.Made.{IsMadeFrom}
 use Rattle.cf_plan.specs.Plans.{ActTree, EndTree, PlanTree, plan_node, PlanTrees, no_plans, plan_more}
 use Rattle.cf_plan.specs.Ready.{IsReady, IsLawfulAt, AreLeaves}
 use Rattle.cf_plan.specs.Stepping.{stepped}
 use Rattle.cf_plan.proofs.ReadyLaws.{ready_same, bare_given, then_given}
 use Rattle.cf_plan.proofs.EndLaws.{EachState, SomeState, IsParted, leaf_over, branches_parted}
+use Rattle.cf_plan.proofs.MadeLaws.{bare_made, then_made}
 
 -- ---- results
 pub on_ok_so : {A B : Type 0} (k : A → Result B Fault) (r : Result A Fault) (b : B) → on_ok k r ≡ Ok b → (a : A) × (r ≡ Ok a) × (k a ≡ Ok b)
@@ -44,6 +42,7 @@ pub bare_lawful : (Given : Values → Type 0) (s : State) → IsReady Given s �
 bare_lawful Given s r = record {
   leads = same_leads s.columns.known Given (whole s.conditions) (whole s.conditions) (λ v one given. ((λ h. h), (λ h. h)));
   ready = ready_same Given (GivenIn Given (branch_of (bare s))) s (bare_given Given s) r;
+  made = bare_made s;
 }
 
 -- ---- one after the other
@@ -51,18 +50,21 @@ then_all : (a : Next) (bs : List Next) → map (then_branch (branch_of a)) (map 
 then_all a [] = refl
 then_all a (b ∷ bs) = ap (λ cs. branch_of (then_next a b) ∷ cs) (then_all a bs)
 
-one_then : (Given : Values → Type 0) (s : State) (a : Next) (bs : List Next) → IsReady Given s → Leads s.columns.known Given (whole s.conditions) (branch_of a ∷ []) →
+one_then : (Given : Values → Type 0) (s : State) (a : Next) (bs : List Next) → IsReady Given s →
+    Leads s.columns.known Given (whole s.conditions) (branch_of a ∷ []) →
     Leads a.state.columns.known (GivenIn Given (branch_of a)) (whole a.state.conditions) (map branch_of bs) →
     Leads s.columns.known Given (whole s.conditions) (map branch_of (map (then_next a) bs))
 one_then Given s a bs r h l =
     let t = then_leads s.columns.known r.columns.constant Given r.of_known (whole s.conditions) (branch_of a ∷ []) (map branch_of bs ∷ []) h (l, tt) in
     subst (Leads s.columns.known Given (whole s.conditions)) (append-nil (map (then_branch (branch_of a)) (map branch_of bs)) ∙ then_all a bs) t
 
-pub then_lawful : (Given : Values → Type 0) (s : State) (a b : Next) → IsReady Given s → IsLawfulAt Given s a → IsLawfulAt (GivenIn Given (branch_of a)) a.state b →
+pub then_lawful : (Given : Values → Type 0) (s : State) (a b : Next) → IsReady Given s → IsLawfulAt Given s a →
+    IsLawfulAt (GivenIn Given (branch_of a)) a.state b →
     IsLawfulAt Given s (then_next a b)
 then_lawful Given s a b r h l = record {
   leads = one_then Given s a (b ∷ []) r h.leads l.leads;
   ready = ready_same (GivenIn (GivenIn Given (branch_of a)) (branch_of b)) (GivenIn Given (branch_of (then_next a b))) b.state (then_given Given a b) l.ready;
+  made = then_made s.columns s.tuples a b h.ready.columns h.leads.formed.0 l.leads.formed.0 h.made l.made;
 }
 
 -- a step and then leaves
@@ -72,6 +74,7 @@ then_leaves_are Given s a bs r h l = record {
   leads = one_then Given s a bs r h.leads l.leads;
   ready = readies bs l.ready;
   over = overs bs l.over;
+  made = mades bs l.leads.formed l.made;
 }
   where
     readies : (bs : List Next) → EachNext (λ n. IsReady (GivenIn (GivenIn Given (branch_of a)) (branch_of n)) n.state) bs →
@@ -82,9 +85,15 @@ then_leaves_are Given s a bs r h l = record {
       readies bs k.1,
     )
 
-    overs : (bs : List Next) → EachNext (λ n. (v : Values) → Model n.state.conditions v) bs → EachNext (λ n. (v : Values) → Model n.state.conditions v) (map (then_next a) bs)
+    overs : (bs : List Next) → EachNext (λ n. (v : Values) → Model n.state.conditions v) bs →
+        EachNext (λ n. (v : Values) → Model n.state.conditions v) (map (then_next a) bs)
     overs [] k = tt
     overs (b ∷ bs) k = (k.0, overs bs k.1)
+
+    mades : (bs : List Next) → EachBranch (Grows a.state.columns.known) (map branch_of bs) → EachNext (IsMadeFrom a.state.columns a.state.tuples) bs →
+        EachNext (IsMadeFrom s.columns s.tuples) (map (then_next a) bs)
+    mades [] g k = tt
+    mades (b ∷ bs) g k = (then_made s.columns s.tuples a b h.ready.columns h.leads.formed.0 g.0 h.made k.0, mades bs g.1 k.1)
 
 -- ---- branches side by side
 -- the leaves of each state, in order
@@ -120,8 +129,7 @@ module _ (Given : Values → Type 0) (columns : Columns) where
       let again = each_leaf c ss l.1 e.1 l.4 (λ v one given h. k v one given (inr h)) o z in
       let leads = subst (λ (q : Columns). Leads q.known Given (whole s.conditions) (map branch_of l.0)) e.0 l.3.leads in
       subst (λ ys. EachBranch (ComesBack columns.known Given (whole c)) (map branch_of ys) × EachBranch (Grows columns.known) (map branch_of ys)) (sym l.2)
-      (subst (λ ys. EachBranch (ComesBack columns.known Given (whole c)) ys × EachBranch (Grows columns.known) ys) (sym (map-append branch_of l.0 l.1))
-      (
+      (subst (λ ys. EachBranch (ComesBack columns.known Given (whole c)) ys × EachBranch (Grows columns.known) ys) (sym (map-append branch_of l.0 l.1)) (
         EachBranch-append (ComesBack columns.known Given (whole c)) (map branch_of l.0) (map branch_of l.1)
             (weaker (map branch_of l.0) leads.back) again.0,
         EachBranch-append (Grows columns.known) (map branch_of l.0) (map branch_of l.1) leads.formed again.1,
@@ -132,9 +140,9 @@ module _ (Given : Values → Type 0) (columns : Columns) where
       weaker [] h = tt
       weaker (b ∷ bs) h = (
         (λ v one given wi met m.
-        let q = h.0 v one given wi met m in
-        let w = after_back v b.back in
-        ((whole-holds w c).1 (k w (sym (q.1 0 z) ∙ one) (o v w q.1 given) (inl ((whole-holds w s.conditions).0 q.0))), q.1)),
+            let q = h.0 v one given wi met m in
+            let w = after_back v b.back in
+            ((whole-holds w c).1 (k w (sym (q.1 0 z) ∙ one) (o v w q.1 given) (inl ((whole-holds w s.conditions).0 q.0))), q.1)),
         weaker bs h.1,
       )
 
@@ -150,6 +158,15 @@ module _ (Given : Values → Type 0) (columns : Columns) where
       let P = λ (n : Next). (v : Values) → Model n.state.conditions v in
       subst (EachNext P) (sym l.2) (EachNext-append P l.0 l.1 l.3.over (leaves_over ss l.1 l.4))
 
+  leaves_made : (tuples : ℕ) (ss : List State) (ls : List Next) → EachState (λ t. t.columns ≡ columns) ss → EachState (λ t. t.tuples ≡ tuples) ss →
+      AllLeaves Given ss ls →
+      EachNext (IsMadeFrom columns tuples) ls
+  leaves_made tuples [] ls e f l = subst (EachNext (IsMadeFrom columns tuples)) (sym l) tt
+  leaves_made tuples (s ∷ ss) ls e f l =
+      let here = subst (λ (k : Columns). EachNext (IsMadeFrom k tuples) l.0) e.0 (subst (λ (m : ℕ). EachNext (IsMadeFrom s.columns m) l.0) f.0 l.3.made) in
+      subst (EachNext (IsMadeFrom columns tuples)) (sym l.2)
+      (EachNext-append (IsMadeFrom columns tuples) l.0 l.1 here (leaves_made tuples ss l.1 e.1 f.1 l.4))
+
 -- the leaves of the branches are those of the node
 parted_leaves : (Given : Values → Type 0) (s : State) (ss : List State) (ls : List Next) → IsReady Given s → IsParted Given s ss → AllLeaves Given ss ls →
     AreLeaves Given s ls
@@ -163,6 +180,7 @@ parted_leaves Given s ss ls r p l =
       };
       ready = leaves_ready Given s.columns ss ls l;
       over = leaves_over Given s.columns ss ls l;
+      made = leaves_made Given s.columns s.tuples ss ls p.same p.tuples l;
     }
 
 -- ---- leaves
@@ -195,7 +213,8 @@ over_model c e v =
 -- ---- the tree
 module _ (lawful : (Given : Values → Type 0) (act : ActTree) (s : State) (n : Next) → IsAct act → IsReady Given s → stepped act s ≡ Ok n →
     IsLawfulAt Given s n) where
-  steps_lawful : (Given : Values → Type 0) (k i : ℕ) (acts : List ActTree) (s : State) (n : Next) → EachAct acts → IsReady Given s → steps_of k i acts s ≡ Ok n →
+  steps_lawful : (Given : Values → Type 0) (k i : ℕ) (acts : List ActTree) (s : State) (n : Next) → EachAct acts → IsReady Given s →
+      steps_of k i acts s ≡ Ok n →
       IsLawfulAt Given s n
   steps_lawful Given k i [] s n w r e = subst (IsLawfulAt Given s) (same_ok (bare s) n e) (bare_lawful Given s r)
   steps_lawful Given k i (act ∷ acts) s n w r e =
@@ -205,18 +224,22 @@ module _ (lawful : (Given : Values → Type 0) (act : ActTree) (s : State) (n : 
       let l = steps_lawful (GivenIn Given (branch_of a.0)) k (i + 1) acts a.0.state b.0 w.1 h.ready b.1 in
       subst (IsLawfulAt Given s) (same_ok (then_next a.0 b.0) n b.2) (then_lawful Given s a.0 b.0 r h l)
 
-  leaf_so : (Given : Values → Type 0) (p : Progress) (s : State) (q : List Next × Progress) → IsReady Given s → is_over s.conditions ≡ true → leaf_at p s ≡ Ok q →
+  leaf_so : (Given : Values → Type 0) (p : Progress) (s : State) (q : List Next × Progress) → IsReady Given s → is_over s.conditions ≡ true →
+      leaf_at p s ≡ Ok q →
       AreLeaves Given s q.0
   leaf_so Given p s q r o e =
       on_bool (nat_lt MOST_LEAVES (p.leaves + 1))
       (λ i. let j : Err (p.nodes, 0, Leaves) ≡ Ok q = rw i at e in cc)
       (λ i.
       let j : Ok (bare s ∷ [], record { nodes = p.nodes; steps = p.steps; leaves = p.leaves + 1 }) ≡ Ok q = rw i at e in
-      let k : (bare s ∷ []) ≡ q.0 = ap (λ (x : List Next × Progress). x.0) (same_ok (bare s ∷ [], record { nodes = p.nodes; steps = p.steps; leaves = p.leaves + 1 }) q j) in
+      let k : (bare s ∷ []) ≡ q.0 = ap (λ (x : List Next × Progress). x.0)
+      (same_ok (bare s ∷ [], record { nodes = p.nodes; steps = p.steps; leaves = p.leaves + 1 }) q j) in
       let b = bare_lawful Given s r in
-      subst (AreLeaves Given s) k (record { leads = b.leads; ready = (b.ready, tt); over = (over_model s.conditions o, tt) }))
+      subst (AreLeaves Given s) k
+      (record { leads = b.leads; ready = (b.ready, tt); over = (over_model s.conditions o, tt); made = (b.made, tt) }))
 
-  end_leads : (Given : Values → Type 0) (end : EndTree) (n : ℕ) (k : List State → Followed) (p : Progress) (s : State) (o : Result Ended Why) (q : List Next × Progress) →
+  end_leads : (Given : Values → Type 0) (end : EndTree) (n : ℕ) (k : List State → Followed) (p : Progress) (s : State) (o : Result Ended Why)
+      (q : List Next × Progress) →
       IsReady Given s → ((ss : List State) → EachState (IsReady Given) ss → k ss ≡ Ok q → AllLeaves Given ss q.0) → ended end n s ≡ o → at_end k p s o ≡ Ok q →
       AreLeaves Given s q.0
   end_leads Given end n k p s (Err w) q r again g e = cc e
@@ -227,7 +250,8 @@ module _ (lawful : (Given : Values → Type 0) (act : ActTree) (s : State) (n : 
 
   node_leads : (Given : Values → Type 0) (acts : List ActTree) (end : EndTree) (arms : PlanTrees) (p : Progress) (s : State) (q : List Next × Progress) →
       EachAct acts → IsReady Given s →
-      ((n : Next) (ss : List State) (u : List Next × Progress) → EachState (IsReady (GivenIn Given (branch_of n))) ss → follow_all arms (begun p acts) ss ≡ Ok u →
+      ((n : Next) (ss : List State) (u : List Next × Progress) → EachState (IsReady (GivenIn Given (branch_of n))) ss →
+      follow_all arms (begun p acts) ss ≡ Ok u →
       AllLeaves (GivenIn Given (branch_of n)) ss u.0) →
       on_ok (λ n. then_leaves n (at_end (λ ss. follow_all arms (begun p acts) ss) (begun p acts) n.state (ended end (plan_count arms) n.state)))
       (steps_of (begun p acts).nodes 1 acts s) ≡ Ok q → AreLeaves Given s q.0
@@ -238,13 +262,16 @@ module _ (lawful : (Given : Values → Type 0) (act : ActTree) (s : State) (n : 
       let n = a.0 in
       let h = steps_lawful Given b.nodes 1 acts s n w r a.1 in
       let u = on_ok_so (λ (x : List Next × Progress). Ok (map (then_next n) x.0, x.1)) (rest n) q a.2 in
-      let l = end_leads (GivenIn Given (branch_of n)) end (plan_count arms) (λ ss. follow_all arms b ss) b n.state (ended end (plan_count arms) n.state) u.0 h.ready
+      let l = end_leads (GivenIn Given (branch_of n)) end (plan_count arms) (λ ss. follow_all arms b ss) b n.state (ended end (plan_count arms) n.state) u.0
+      h.ready
       (λ ss. again n ss u.0) refl u.1 in
-      subst (AreLeaves Given s) (ap (λ (x : List Next × Progress). x.0) (same_ok (map (then_next n) u.0.0, u.0.1) q u.2)) (then_leaves_are Given s n u.0.0 r h l)
+      subst (AreLeaves Given s) (ap (λ (x : List Next × Progress). x.0) (same_ok (map (then_next n) u.0.0, u.0.1) q u.2))
+      (then_leaves_are Given s n u.0.0 r h l)
 
   mutual
     -- the law
-    pub plan_leads : (Given : Values → Type 0) (t : PlanTree) (p : Progress) (s : State) (q : List Next × Progress) → IsPlan t → IsReady Given s → follow t p s ≡ Ok q →
+    pub plan_leads : (Given : Values → Type 0) (t : PlanTree) (p : Progress) (s : State) (q : List Next × Progress) → IsPlan t → IsReady Given s →
+        follow t p s ≡ Ok q →
         AreLeaves Given s q.0
     plan_leads Given (plan_node acts end arms) p s q w r e =
         on_bool (nat_lt MOST_STEPS (begun p acts).steps)
@@ -252,7 +279,8 @@ module _ (lawful : (Given : Values → Type 0) (act : ActTree) (s : State) (n : 
         (λ i. node_leads Given acts end arms p s q w.0 r
         (λ n ss u. all_lead (GivenIn Given (branch_of n)) arms (begun p acts) ss u w.1) (rw i at e))
 
-    all_lead : (Given : Values → Type 0) (ts : PlanTrees) (p : Progress) (ss : List State) (q : List Next × Progress) → ArePlans ts → EachState (IsReady Given) ss →
+    all_lead : (Given : Values → Type 0) (ts : PlanTrees) (p : Progress) (ss : List State) (q : List Next × Progress) → ArePlans ts →
+        EachState (IsReady Given) ss →
         follow_all ts p ss ≡ Ok q → AllLeaves Given ss q.0
     all_lead Given no_plans p [] q w r e = ap (λ (x : List Next × Progress). x.0) (sym (same_ok ([], p) q e))
     all_lead Given no_plans p (s ∷ ss) q w r e = cc e

@@ -4,25 +4,30 @@ use Rattle.std.specs.Prelude.{nat_lt}
 use Rattle.std.specs.List.{list_all}
 use Rattle.std.proofs.lemmas.Int.{ints}
 use Rattle.std.proofs.lemmas.Bool.{and_parts, eqb-true, eqb-false}
+use Rattle.std.proofs.lemmas.List.Elements.{All-nil}
 use Rattle.cf_linear.specs.declared.refusal.Refusal.TheVariants.{Past}
 use Rattle.cf_linear.specs.Keep.{In, Over, after_back}
-use Rattle.cf_linear.specs.Rows.{Row, Values, put, is_zero, Rises}
-use Rattle.cf_linear.specs.Steps.{has_column, replaced}
+use Rattle.cf_linear.specs.Rows.{Row, Values, is_zero, Rises}
+use Rattle.cf_linear.specs.Steps.{has_column}
+use Rattle.cf_linear.proofs.BoolLemmas.{on_bool}
 use Rattle.cf_linear.proofs.Canonical.{Rises-put, Rises-lower}
 use Rattle.cf_linear.proofs.KindLemmas.{Over-put, Over-weaker}
 use Rattle.cf_linear.proofs.RowLemmas.{zero_from_is_zero}
 use Rattle.cf_bounds.proofs.OwesLemmas.{has-in}
-use Rattle.cf_formula.specs.Branches.{GivenIn, Leads}
-use Rattle.cf_formula.specs.States.{Conditions, whole, changed, Columns, State, Next, branch_of}
+use Rattle.cf_elim.specs.Returning.{BackOver, back_columns, BackDivides}
+use Rattle.cf_elim.proofs.SearchLaws.{IsSome}
+use Rattle.cf_formula.specs.Branches.{GivenIn}
+use Rattle.cf_formula.specs.States.{whole, changed, State, Next, branch_of}
 use Rattle.cf_formula.specs.Turns.{times, identity, subst_rows, backs, row_from, turn_pairs}
 use Rattle.cf_formula.proofs.TurnLaws.{backs-other, pairs_apart, turn_leads}
 use Rattle.cf_plan.specs.declared.why.Why.TheVariants.{Unknown, Inverse, Refused}
-use Rattle.cf_plan.specs.Laws.{IsColumn, AreColumns, IsRowOver, AreOver}
+use Rattle.cf_plan.specs.Laws.{IsColumn, AreColumns, IsRowOver}
+use Rattle.cf_plan.specs.Made.{BackNew, IsMadeFrom}
 use Rattle.cf_plan.specs.Plans.{act_turn}
 use Rattle.cf_plan.specs.Ready.{IsReady, IsLawfulAt}
 use Rattle.cf_plan.specs.Stepping.{gone_next, gone_passes, are_distinct, are_unknowns, same_numbers, same_matrix, is_square, are_inverse, renamed, turned_columns, stepped}
 use Rattle.cf_plan.proofs.ConditionLaws.{changed-over}
-use Rattle.cf_plan.proofs.ReadyLaws.{ready_same, is_true, not_rejected, counted_so, column_in, replaced_in, replaced_new, replaced_from, whole_below}
+use Rattle.cf_plan.proofs.ReadyLaws.{ready_same, is_true, not_rejected, counted_so, column_in, replaced_in, replaced_new, replaced_from, replaced_gone, some_unless, whole_below}
 use Rattle.cf_plan.proofs.StepLaws.{put_iff, subst_over}
 
 -- ---- what the tests say
@@ -64,6 +69,20 @@ renamed_from c n (x ∷ xs) us i =
     ⊎_elim (λ (e : c ≡ n). inl (omega arith, omega arith))
     (λ j. ⊎_elim (λ b. let b0 = b.0 in let b1 = b.1 in inl (omega arith, omega arith)) (λ k. inr k) (renamed_from c (n + 1) xs us j))
     (replaced_from c x n (renamed (n + 1) xs us) i)
+
+-- a column that gives way is there no more
+renamed_gone : (c n : ℕ) (xs us : List ℕ) → ((x : ℕ) → In x xs → x < n) → In c xs → In c (renamed n xs us) → ⊥
+renamed_gone c n [] us h i j = i
+renamed_gone c n (x ∷ xs) us h i j =
+    let low = h c i in
+    on_bool (c == x)
+    (λ e.
+    let q : c ≡ x = eqb-true c x e in
+    let g = replaced_gone x n (renamed (n + 1) xs us) (subst (λ z. In z (renamed n (x ∷ xs) us)) q j) in absurd (omega arith))
+    (λ e.
+    ⊎_elim (λ (q : c ≡ x). eqb-false c x e q)
+    (λ k. ⊎_elim (λ (q : c ≡ n). absurd (omega arith)) (λ m. renamed_gone c (n + 1) xs us (λ y l. let b = h y (inr l) in omega arith) k m)
+    (replaced_from c x n (renamed (n + 1) xs us) j)) i)
 
 renamed_old : (c n : ℕ) (xs us : List ℕ) → In c us → ((x : ℕ) → In x xs → c ≢ x) → In c (renamed n xs us)
 renamed_old c n [] us i h = i
@@ -117,6 +136,35 @@ pairs_over P Q n ns h (x ∷ xs) (ks ∷ ms) l r o =
     (λ c q d. ⊎_elim (λ k. inl k) (λ k. inr (k.0, (λ y i. ⊎_elim (λ (e : y ≡ x). λ g. d (g ∙ e)) (λ j. k.1 y j) i))) q)
     (Over-weaker Q S (λ c q. inl q) s (h ks).0, (h ks).1) (subst_rows (turn_pairs n xs ms ns) r) again
 
+-- ---- the way back of a turn
+pairs_columns : (n : ℕ) (xs : List ℕ) (ms ns : List (List ℤ)) → length ms ≡ length xs → back_columns (backs (turn_pairs n xs ms ns)) ≡ xs
+pairs_columns n [] ms ns l = refl
+pairs_columns n (x ∷ xs) [] ns l = absurd (omega (arith, l))
+pairs_columns n (x ∷ xs) (ks ∷ ms) ns l = ap (λ cs. x ∷ cs) (pairs_columns n xs ms ns (omega (arith, l)))
+
+pairs_back : (Q : ℕ → Type 0) (n : ℕ) (ns : List (List ℤ)) → ((ks : List ℤ) → Over Q (row_from n ns ks)) → (xs : List ℕ) (ms : List (List ℤ)) →
+    ((x : ℕ) → In x xs → 1 ≤ x) → BackOver Q (backs (turn_pairs n xs ms ns))
+pairs_back Q n ns h [] ms k = tt
+pairs_back Q n ns h (x ∷ xs) [] k = tt
+pairs_back Q n ns h (x ∷ xs) (ks ∷ ms) k =
+    let R = λ (d : ℕ). (d ≡ x) ⊎ Q d in
+    (k x (inl refl), h ks, pairs_back R n ns (λ js. Over-weaker Q R (λ d q. inr q) (row_from n ns js) (h js)) xs ms (λ y i. k y (inr i)))
+
+pairs_new : (Q : ℕ → Type 0) (n : ℕ) (ns : List (List ℤ)) (xs : List ℕ) (ms : List (List ℤ)) → are_distinct xs ≡ true → ((x : ℕ) → In x xs → Q x → ⊥) →
+    BackNew Q (backs (turn_pairs n xs ms ns))
+pairs_new Q n ns [] ms d k = tt
+pairs_new Q n ns (x ∷ xs) [] d k = tt
+pairs_new Q n ns (x ∷ xs) (ks ∷ ms) d k =
+    let p = and_parts (not (has_column xs x)) (are_distinct xs) d in (
+      k x (inl refl),
+      pairs_new (λ c. (c ≡ x) ⊎ Q c) n ns xs ms p.1 (λ y i q. ⊎_elim (λ (e : y ≡ x). first_apart x xs d y i (sym e)) (λ h. k y (inr i) h) q),
+    )
+
+pairs_divide : (n : ℕ) (ns : List (List ℤ)) (xs : List ℕ) (ms : List (List ℤ)) → BackDivides (backs (turn_pairs n xs ms ns))
+pairs_divide n ns [] ms = tt
+pairs_divide n ns (x ∷ xs) [] = tt
+pairs_divide n ns (x ∷ xs) (ks ∷ ms) = (tt, pairs_divide n ns xs ms)
+
 -- ---- the step
 module _ (Given : Values → Type 0) (s : State) (r : IsReady Given s) (xs : List ℕ) (ms ns : List (List ℤ)) (unknowns : are_unknowns s.columns.unknown xs ≡ true)
     (inverse : are_inverse (length xs) ms ns ≡ true) where
@@ -164,7 +212,8 @@ module _ (Given : Values → Type 0) (s : State) (r : IsReady Given s) (xs : Lis
       let z1 = z.1 in (
         Over-weaker (λ c. (n ≤ c) × (c < n + length ns)) (IsColumn (turned_columns xs s.columns))
             (λ c q. let q0 = q.0 in let q1 = q.1 in
-            inr (renamed_new c n xs s.columns.unknown (λ x i. (xs_in x i, r.columns.unknown_below x (xs_in x i))) named.1 q0 (omega arith))) (row_from n ns ks) h.0,
+            inr (renamed_new c n xs s.columns.unknown (λ x i. (xs_in x i, r.columns.unknown_below x (xs_in x i))) named.1 q0 (omega arith))) (row_from n ns ks)
+            h.0,
         Rises-lower 0 n (row_from n ns ks) (omega arith) h.1,
       )
 
@@ -178,6 +227,40 @@ module _ (Given : Values → Type 0) (s : State) (r : IsReady Given s) (xs : Lis
             (λ c k. ⊎_elim (λ i. i) (λ i. ⊎_elim (λ j. inl j) (λ j. inr (renamed_old c n xs s.columns.unknown j i.1)) i.0) k) (subst_rows pairs q) h.0,
         h.1,
       )
+
+  left_or_turned : (c : ℕ) → In c s.columns.unknown → In c (renamed n xs s.columns.unknown) ⊎ In c xs
+  left_or_turned c u =
+      on_bool (has_column xs c) (λ e. inr (column_in xs c e))
+      (λ e. inl (renamed_old c n xs s.columns.unknown u (λ x i q. true≢false (sym (has-in c xs (subst (λ z. In z xs) (sym q) i)) ∙ e))))
+
+  turned_made : IsMadeFrom s.columns s.tuples new
+  turned_made =
+      let Q = IsColumn (turned_columns xs s.columns) in
+      let z = sizes in
+      let same = pairs_columns n xs ms ns z.0 in
+      let old : (c : ℕ) → In c (back_columns (backs pairs)) → In c s.columns.unknown = λ c i. xs_in c (subst (λ cs. In c cs) same i) in
+      record {
+        next = omega arith;
+        searches = omega arith;
+        known = λ c k. inr (inl k);
+        fresh = λ c q.
+            ⊎_elim
+            (λ h. ⊎_elim (λ k. inl (inl k)) (λ u. ⊎_elim (λ b. inr b.0) (λ j. inl (inr j)) (renamed_from c n xs s.columns.unknown u)) h)
+            (λ h. inl (inr (old c h))) q;
+        over = tt;
+        new = tt;
+        divide = tt;
+        covers = λ c u. ⊎_elim (λ i. inl i) (λ i. inr (subst (λ cs. In c cs) (sym same) i)) (left_or_turned c u);
+        back_over = pairs_back Q n ns (λ ks. (rows_over ks).0) xs ms (λ x i. some_unless x (λ e. known_apart 0 x r.columns.constant i e));
+        back_new = pairs_new Q n ns xs ms named.1
+            (λ x i q. ⊎_elim (λ k. known_apart x x k i refl)
+            (λ u. renamed_gone x n xs s.columns.unknown (λ y j. r.columns.unknown_below y (xs_in y j)) i u) q);
+        back_divides = pairs_divide n ns xs ms;
+        back_old = λ c h. let l = r.columns.unknown_below c (old c h) in omega arith;
+        bounds = All-nil IsSome;
+        counted = refl;
+        few = λ l. l;
+      }
 
   pub turn_lawful_at : IsLawfulAt Given s new
   turn_lawful_at =
@@ -197,9 +280,11 @@ module _ (Given : Values → Type 0) (s : State) (r : IsReady Given s) (xs : Lis
           lets = r.lets;
           lets_known = r.lets_known;
         });
+        made = turned_made;
       }
 
-pub turn_lawful : (Given : Values → Type 0) (xs : List ℕ) (ms ns : List (List ℤ)) (s : State) (n : Next) → IsReady Given s → stepped (act_turn xs ms ns) s ≡ Ok n →
+pub turn_lawful : (Given : Values → Type 0) (xs : List ℕ) (ms ns : List (List ℤ)) (s : State) (n : Next) → IsReady Given s →
+    stepped (act_turn xs ms ns) s ≡ Ok n →
     IsLawfulAt Given s n
 turn_lawful Given xs ms ns s n r e =
     let ps = turn_pairs s.columns.next xs ms ns in

@@ -10,7 +10,7 @@ use Rattle.cf_formula.specs.Atoms.{key, is_constant, rounded, tight_row}
 use Rattle.cf_formula.specs.Facts.{is_implied}
 use Rattle.cf_formula.specs.Formulas.{Formula, at_least, equal}
 use Rattle.cf_formula.specs.Items.{Item, floor_of, need}
-use Rattle.cf_formula.specs.States.{Conditions, with_row, Columns, State, Next, bare, then_next}
+use Rattle.cf_formula.specs.States.{with_row, State, Next, bare, then_next}
 use Rattle.cf_plan.specs.Holding.{holds_unknown}
 
 -- ---- facts

@@ -1,5 +1,5 @@
 -- A plan followed from a state: its leaves, or where it is rejected and why.
-use Rattle.std.specs.Prelude.{ℕ, zero, suc, ◌+◌, ◌==◌, List, [], ◌∷◌, ◌++◌, length, map, take, drop, Bool, not, ◌||◌, nat_lt, slice_get, Option, Some, None, Result, Ok, Err, if◌then◌else◌}
+use Rattle.std.specs.Prelude.{ℕ, suc, ◌+◌, ◌==◌, List, [], ◌∷◌, ◌++◌, length, map, take, drop, Bool, not, ◌||◌, nat_lt, slice_get, Option, Some, None, Result, Ok, Err, if◌then◌else◌}
 use Rattle.cf_formula.specs.Formulas.{Formula}
 use Rattle.cf_formula.specs.Members.{disjuncts}
 use Rattle.cf_formula.specs.Simplifying.{is_refuted}

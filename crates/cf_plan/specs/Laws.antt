@@ -1,5 +1,5 @@
 -- What the kernel owes: a plan that is taken solves, whoever wrote it.
-use Rattle.std.specs.Prelude.{◌≡◌, ℕ, pos, ◌<◌, ◌⊎◌, List, [], ◌∷◌, false, Ok}
+use Rattle.std.specs.Prelude.{◌≡◌, ℕ, pos, ◌<◌, ◌⊎◌, List, [], ◌∷◌, Ok}
 use Rattle.cf_linear.specs.Keep.{In, Over, Within, after_back}
 use Rattle.cf_linear.specs.Rows.{Row, Values, Rises}
 use Rattle.cf_linear.specs.Systems.{EachRow}

@@ -3,6 +3,7 @@ pub mod Following
 pub mod Holding
 pub mod Laws
 pub mod Leaves
+pub mod Made
 pub mod Planned
 pub mod Plans
 pub mod Ready

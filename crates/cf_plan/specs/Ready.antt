@@ -7,6 +7,7 @@ use Rattle.cf_linear.specs.Systems.{EachRow}
 use Rattle.cf_formula.specs.Branches.{IsOfKnown, GivenIn, Leads}
 use Rattle.cf_formula.specs.States.{Model, whole, State, Next, branch_of}
 use Rattle.cf_plan.specs.Laws.{IsColumn, AreColumns, AreOver, EachNext}
+use Rattle.cf_plan.specs.Made.{IsMadeFrom}
 
 -- the let of the row and the divisor has been computed
 abbrev pub IsComputed : Values → (ℕ × Row × ℤ) → Type 0
@@ -26,10 +27,11 @@ pub record IsReady (Given : Values → Type 0) (s : State) : Type 0 where
   pub lets_known : EachLet (λ (d, r, g). In d s.columns.known) s.shared
 
 -- ---- steps
--- a step that is taken leads on to its next state, which is ready again
+-- a step that is taken leads on to its next state, which is ready again, and makes new columns
 pub record IsLawfulAt (Given : Values → Type 0) (s : State) (n : Next) : Type 0 where
   pub leads : Leads s.columns.known Given (whole s.conditions) (branch_of n ∷ [])
   pub ready : IsReady (GivenIn Given (branch_of n)) n.state
+  pub made : IsMadeFrom s.columns s.tuples n
 
 -- ---- leaves
 -- solutions go on to some leaf, and come back from each; on each leaf nothing is left to hold
@@ -37,3 +39,4 @@ pub record AreLeaves (Given : Values → Type 0) (s : State) (leaves : List Next
   pub leads : Leads s.columns.known Given (whole s.conditions) (map branch_of leaves)
   pub ready : EachNext (λ n. IsReady (GivenIn Given (branch_of n)) n.state) leaves
   pub over : EachNext (λ n. (v : Values) → Model n.state.conditions v) leaves
+  pub made : EachNext (IsMadeFrom s.columns s.tuples) leaves

@@ -1,22 +1,21 @@
 -- What a step makes of a state, or why it is rejected.
-use Rattle.std.specs.Prelude.{ℕ, suc, ◌+◌, ◌*◌, ◌==◌, ◌-ℤ◌, ℤ, pos, negsuc, neg_ℤ, unsigned_abs, List, [], ◌∷◌, ◌++◌, length, map, take, drop, filter, Bool, true, false, not, ◌&&◌, ◌||◌, nat_lt, int_lt, slice_get, Option, Some, None, Result, Ok, Err, if◌then◌else◌}
+use Rattle.std.specs.Prelude.{ℕ, suc, ◌+◌, ◌==◌, ◌-ℤ◌, ℤ, pos, negsuc, neg_ℤ, unsigned_abs, List, [], ◌∷◌, ◌++◌, length, map, take, drop, filter, Bool, true, false, not, ◌&&◌, ◌||◌, nat_lt, slice_get, Option, Some, None, Result, Ok, Err, if◌then◌else◌}
 use Rattle.std.specs.List.{list_any, list_all, fold, flat_map}
 use Rattle.cf_linear.specs.declared.refusal.LimitKind.TheVariants.{Rows, Columns as ColumnLimit, Search}
 use Rattle.cf_linear.specs.declared.refusal.Refusal.TheVariants.{Past, Limit}
 use Rattle.cf_linear.specs.declared.refusal.TheConstants.{MOST_ROWS, MOST_COLUMNS, MOST_TUPLES}
-use Rattle.cf_linear.specs.Arm.{negated}
-use Rattle.cf_linear.specs.Rows.{Row, entry, is_zero, passes, row_passes, comb, without, subst_passes}
+use Rattle.cf_linear.specs.Rows.{Row, entry, is_zero, row_passes, comb, without, subst_passes}
 use Rattle.cf_linear.specs.Stages.{times_bound}
 use Rattle.cf_linear.specs.Steps.{has_column, present, one_at, is_unit, solved_row, lowers, uppers, replaced, searched, dropped, drop_passes}
 use Rattle.cf_linear.specs.Systems.{System, Answer, floor_of as step_floor, need_divides as step_divides}
 use Rattle.cf_formula.specs.Atoms.{ge}
-use Rattle.cf_formula.specs.Items.{Item, item_of}
+use Rattle.cf_formula.specs.Items.{item_of}
 use Rattle.cf_formula.specs.Simplifying.{simplified}
 use Rattle.cf_formula.specs.States.{Conditions, add_all, changed, Columns, State, Next, bare, with_conditions}
 use Rattle.cf_formula.specs.Turns.{times, identity, subst_rows, backs, turn_pairs}
 use Rattle.cf_plan.specs.declared.why.Why.{Why}
 use Rattle.cf_plan.specs.declared.why.Why.TheVariants.{Unknown, HeldByEquation, HeldByFormula, Exact, Single, Inverse, Known, Refused}
-use Rattle.cf_plan.specs.Cleaning.{with_facts, floor_rows, cleaned}
+use Rattle.cf_plan.specs.Cleaning.{with_facts, cleaned}
 use Rattle.cf_plan.specs.Holding.{is_in_equation, is_in_formula, all_rows}
 use Rattle.cf_plan.specs.Plans.{ActTree, act_simplify, act_clean, act_drop, act_last, act_search, act_turn, act_shift}
 
