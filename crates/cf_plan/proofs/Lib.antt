@@ -1,15 +1,20 @@
 pub mod BoundLaws
 pub mod ConditionLaws
+pub mod CountCodes
 pub mod EndLaws
 pub mod FormulaCodes
 pub mod InTurn
 pub mod ItemCodes
 pub mod LastStep
+pub mod LeafArms
+pub mod LeafEnds
+pub mod LeafExamples
 pub mod MadeLaws
 pub mod NeedLaws
 pub mod PlanExamples
 pub mod PlanLaws
 pub mod PlannedExamples
+pub mod PlannedLaws
 pub mod PutLaws
 pub mod ReadyLaws
 pub mod RoundLaws
@@ -17,3 +22,4 @@ pub mod StartLaws
 pub mod StepLaws
 pub mod TreeLaws
 pub mod TurnStep
+pub mod UnknownCodes

@@ -1,16 +1,15 @@
 -- The code of chooses by plans.
-use Rattle.std.proofs.Common.{◌≡◌, pos, negsuc, [], ◌∷◌, true, false, Ok, refl}
+use Rattle.std.proofs.Common.{◌≡◌, pos, negsuc, [], ◌∷◌, true, Ok, refl}
 use Rattle.cf_num.specs.Divisors.{gcd_by}
 use Rattle.cf_tree.specs.declared.base.Base.TheVariants.{Int, Set}
-use Rattle.cf_tree.specs.declared.base.Order.TheVariants.{Eq, Ne, Lt, Le, Gt, Ge}
-use Rattle.cf_tree.specs.ChooseTree.{ChooseTree}
-use Rattle.cf_tree.specs.CodeTree.{code_lit, code_truth, code_var, code_set_of, code_sum, code_mul, code_neg, code_div, code_max, code_min, code_compare, code_divides, code_and, code_or, code_union, code_inter, code_diff, code_card, code_slice, code_fresh, code_solve, let_item, need_item, arm_of, arms_of, items_of, codes_of}
-use Rattle.cf_tree.specs.RelTree.{set_var, inter_of, diff_of, term_lit, term_var, term_card, term_neg, term_add, term_sub, term_mul, term_div, term_mod, term_abs, rel_compare, rel_divides, rel_and, rel_or, rel_not}
+use Rattle.cf_tree.specs.declared.base.Order.TheVariants.{Eq, Le, Ge}
+use Rattle.cf_tree.specs.CodeTree.{code_lit, code_var, code_sum, code_mul, code_div, code_max, code_compare, code_divides, code_or, code_union, code_card, code_slice, code_fresh, code_solve, let_item, need_item, arm_of, arms_of, items_of, codes_of}
+use Rattle.cf_tree.specs.RelTree.{set_var, inter_of, term_lit, term_var, term_card, term_add, term_mul, rel_compare, rel_and, rel_or}
 use Rattle.cf_linear.specs.Cases.{write_atom}
 use Rattle.cf_linear.specs.Steps.{searched, dropped}
 use Rattle.cf_plan.specs.Leaves.{leaf_arm}
 use Rattle.cf_plan.specs.Planned.{planned}
-use Rattle.cf_plan.specs.Plans.{act_simplify, act_clean, act_drop, act_last, act_search, act_turn, act_shift, end_over, end_close, end_or, plan_node, no_plans, plan_more}
+use Rattle.cf_plan.specs.Plans.{act_simplify, act_clean, act_drop, act_last, act_search, act_turn, end_over, end_close, end_or, plan_node, no_plans, plan_more}
 
 -- (m == a || m == b) && a <= m && b <= m
 greatest_of_two : planned (record { number = 1; names = []; scope = Int ∷ Int ∷ []; outputs = Int ∷ []; relation = (rel_and (rel_or (rel_compare Eq (term_var 2) (term_var 0)) (rel_compare Eq (term_var 2) (term_var 1))) (rel_and (rel_compare Le (term_var 0) (term_var 2)) (rel_compare Le (term_var 1) (term_var 2)))) }) (plan_node (act_simplify ∷ []) (end_or 0) (plan_more (plan_node (act_simplify ∷ act_last 0 ∷ act_clean ∷ []) end_over no_plans) (plan_more (plan_node (act_simplify ∷ act_last 0 ∷ act_clean ∷ []) end_over no_plans) no_plans))) ≡ Ok (code_solve 1 (arms_of (arm_of ([]) (items_of (need_item (code_compare Ge (code_sum (codes_of ((code_var 0) ∷ (code_mul (code_lit (negsuc 0)) (code_var 1)) ∷ []))) (code_lit (pos 0))) ∷ [])) (codes_of ((code_var 0) ∷ [])) ∷ arm_of ([]) (items_of (need_item (code_compare Ge (code_sum (codes_of ((code_mul (code_lit (negsuc 0)) (code_var 0)) ∷ (code_var 1) ∷ []))) (code_lit (pos 0))) ∷ [])) (codes_of ((code_var 1) ∷ [])) ∷ [])))
@@ -56,4 +55,3 @@ never = refl
 few_of : planned (record { number = 1; names = []; scope = Int ∷ Set ∷ []; outputs = Set ∷ []; relation = (rel_and (rel_compare Eq (term_card (set_var 2)) (term_var 0)) (rel_compare Eq (term_card (inter_of (set_var 2) (set_var 1))) (term_lit (pos 0)))) }) (plan_node (act_last 1 ∷ act_last 0 ∷ act_last 0 ∷ act_clean ∷ []) end_over no_plans) ≡ Ok (code_solve 1 (arms_of (arm_of ([]) (items_of (let_item (code_var 1) ∷ let_item (code_card (code_var 2)) ∷ need_item (code_compare Ge (code_var 3) (code_lit (pos 0))) ∷ need_item (code_compare Ge (code_var 0) (code_lit (pos 0))) ∷ let_item (code_var 3) ∷ let_item (code_var 0) ∷ let_item (code_lit (pos 0)) ∷ let_item (code_fresh (code_var 1) (code_var 5)) ∷ [])) (codes_of ((code_union (codes_of ((code_slice (code_var 7) (code_lit (pos 0)) (code_var 5)) ∷ (code_slice (code_var 2) (code_var 4) (code_var 6)) ∷ []))) ∷ [])) ∷ [])))
 unfolding planned leaf_arm gcd_by write_atom searched dropped
 few_of = refl
-

@@ -1,16 +1,17 @@
 -- The code of a leaf: its searches, its lets and needs, its unknowns, and what it gives.
-use Rattle.std.specs.Prelude.{ℕ, ◌+◌, ◌-◌, ◌*◌, ◌^◌, ◌==◌, nat_lt, ℤ, pos, ◌-ℤ◌, List, [], ◌∷◌, ◌++◌, length, map, Bool, true, false, ◌&&◌, ◌||◌, cond, if◌then◌else◌}
+use Rattle.std.specs.Prelude.{ℕ, ◌+◌, ◌-◌, ◌*◌, ◌==◌, nat_lt, ℤ, pos, ◌-ℤ◌, List, [], ◌∷◌, ◌++◌, length, map, Bool, true, false, ◌&&◌, ◌||◌, if◌then◌else◌}
 use Rattle.std.specs.List.{list_any, range_with_len, fold}
 use Rattle.cf_tree.specs.declared.base.Order.TheVariants.{Eq, Ge}
-use Rattle.cf_tree.specs.CodeTree.{CodeTree, code_lit, code_truth, code_var, code_div, code_compare, code_divides, code_and, code_or, let_item, ArmTree, arm_of, codes_of, items_of}
-use Rattle.cf_linear.specs.Arm.{ColumnLevels, level_of, row_code, how_code, ArmBuilder, let_named, need as need_code, let_region, begun, fresh_code, set_code}
-use Rattle.cf_linear.specs.Layout.{Layout, masks, place, has_level, set_count, number_column, region_column}
-use Rattle.cf_linear.specs.Rows.{Row, is_zero, row_passes, comb, same_row}
+use Rattle.cf_tree.specs.CodeTree.{CodeTree, code_lit, code_truth, code_div, code_compare, code_divides, code_and, code_or, let_item, ArmTree, arm_of, codes_of, items_of}
+use Rattle.cf_linear.specs.Arm.{ColumnLevels, row_code, how_code, ArmBuilder, let_named, need as need_code, let_region, begun, fresh_code, set_code}
+use Rattle.cf_linear.specs.Layout.{Layout, masks, place, has_level, set_count, known_count, first_free, number_column, region_column}
+use Rattle.cf_linear.specs.Rows.{Row, is_zero, passes, row_passes, comb, same_row}
 use Rattle.cf_linear.specs.Steps.{one_at}
 use Rattle.cf_linear.specs.Systems.{How, row_how, greatest, least}
 use Rattle.cf_formula.specs.Formulas.{Formula, always, never, at_least, equal, both, either}
 use Rattle.cf_formula.specs.Items.{Item, floor_of, need, need_divides}
 use Rattle.cf_formula.specs.States.{Next}
+use Rattle.cf_plan.specs.Holding.{atom_rows}
 
 -- ---- formulas
 -- the members of an `and` one after the other from the left, and those of an `or` likewise
@@ -92,8 +93,11 @@ let_count l b m =
     })
 
 -- with the counts of all regions and the fresh numbers, where there are output sets
+abbrev pub counted_masks : Layout → List ℕ
+counted_masks l = (if nat_lt 0 (length l.out_sets) then masks (set_count l) else [])
+
 abbrev pub with_counts : Layout → LeafBuilder → LeafBuilder
-with_counts l b = (if nat_lt 0 (length l.out_sets) then fold (let_count l) b (masks (set_count l)) else b)
+with_counts l b = fold (let_count l) b (counted_masks l)
 
 abbrev pub with_fresh : Layout → ArmBuilder → ArmBuilder
 with_fresh l k =
@@ -129,19 +133,29 @@ leaf_arm l n =
     (codes_of (map (give_code l n b) (range_with_len l.scope (length l.out_numbers + length l.out_sets))))
 
 -- ---- the limit of numbers
+abbrev pub item_passes : Item → Bool
+item_passes (floor_of c r g) = row_passes r || passes g
+item_passes (need f) = list_any row_passes (atom_rows f)
+item_passes (need_divides g r) = row_passes r || passes g
+
 abbrev pub bounds_pass : List (Row × ℤ) → Bool
-bounds_pass bs = list_any (λ (r, k). row_passes r) bs
+bounds_pass bs = list_any (λ (r, k). row_passes r || passes k) bs
 
 abbrev pub how_passes : List (ℕ × Row) → How → Bool
 how_passes rows (row_how r) = row_passes (put_in rows r)
 how_passes rows (greatest bs) = bounds_pass (put_bounds rows [] bs)
 how_passes rows (least bs) = bounds_pass (put_bounds rows [] bs)
 
--- whether a row that was put passes the limit of numbers
 abbrev pub back_passes : LeafBuilder → List (ℕ × How) → Bool
 back_passes b [] = false
 back_passes b ((x, h) ∷ back) = how_passes b.rows h || back_passes (with_unknown b (x, h)) back
 
+-- the columns of the number outputs and of the counts of all regions
+abbrev pub output_columns : Layout → List ℕ
+output_columns l = range_with_len (known_count l) (first_free l - known_count l)
+
+-- whether a number that the arm may hold passes the limit: of a let or a need, of an unknown's bound, or of the row that a column of an output became
 abbrev pub leaf_passes : Layout → Next → Bool
 leaf_passes l n =
-    back_passes (begun_leaf l n) n.back || list_any (λ x. row_passes (given_row l (computed_leaf l n) x)) l.out_numbers
+    list_any item_passes n.items || (back_passes (begun_leaf l n) n.back
+    || list_any (λ c. row_passes (put_in (computed_leaf l n).rows (one_at c))) (output_columns l))

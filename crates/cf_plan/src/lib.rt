@@ -5,5 +5,5 @@ pub mod laws;
 mod limits;
 mod why;
 
-pub use crate::limits::{MOST_LEAVES, MOST_STEPS};
+pub use crate::limits::{MOST_DEPTH, MOST_LEAVES, MOST_STEPS};
 pub use crate::why::Why;

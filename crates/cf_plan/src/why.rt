@@ -30,6 +30,8 @@ pub enum Why {
     Leaves,
     /// There are too many steps and ends.
     Steps,
+    /// An arm nests too deep.
+    Depth,
     /// The limit of numbers, or a counted limit of a state, is passed.
     Refused(Refusal),
 }
