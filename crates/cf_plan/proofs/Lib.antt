@@ -1,8 +1,12 @@
+pub mod ArmGrowth
 pub mod BoundLaws
 pub mod ConditionLaws
 pub mod CountCodes
 pub mod EndLaws
 pub mod FormulaCodes
+pub mod GrowthExamples
+pub mod GrowthLaws
+pub mod GrowthScales
 pub mod InTurn
 pub mod ItemCodes
 pub mod LastStep
@@ -10,6 +14,7 @@ pub mod LeafArms
 pub mod LeafEnds
 pub mod LeafExamples
 pub mod MadeLaws
+pub mod MeasuredLaws
 pub mod NeedLaws
 pub mod PlanExamples
 pub mod PlanLaws

@@ -1,5 +1,5 @@
 -- The code of a plan that is taken means a solution, or that there is none.
-use Rattle.std.proofs.Common.{◌≡◌, ℕ, ◌+◌, ◌≤◌, List, [], ◌∷◌, ◌++◌, inl, inr, ⊎_elim, map, false, Result, Ok, Err, refl, subst, arith}
+use Rattle.std.proofs.Common.{◌≡◌, ℕ, ◌+◌, ◌*◌, ◌≤◌, length, replicate, List, [], ◌∷◌, ◌++◌, inl, inr, ⊎_elim, map, false, Result, Ok, Err, refl, subst, arith}
 use Rattle.std.specs.Prelude.{nat_lt}
 use Rattle.std.specs.List.{list_any}
 use Rattle.std.proofs.lemmas.Bool.{ltb-false}
@@ -9,7 +9,7 @@ use Rattle.cf_tree.specs.declared.base.Base.TheVariants.{Int, Bool as Truth, Set
 use Rattle.cf_tree.specs.Allowed.{Chosen}
 use Rattle.cf_tree.specs.ChooseTree.{ChooseTree}
 use Rattle.cf_tree.specs.CodeTree.{CodeTree, code_depth, code_solve, ArmTree, arm_of, ArmTrees, no_arms, arm_more, arms_of, arms_depth}
-use Rattle.cf_tree.specs.Meaning.{means}
+use Rattle.cf_tree.specs.Meaning.{means, peak}
 use Rattle.cf_tree.specs.RelTree.{RelTree}
 use Rattle.cf_tree.specs.Relation.{Holds, Sol, IsTyped, IsLinear}
 use Rattle.cf_tree.specs.Solving.{NeedsHold, HoldSomewhere, EachGives, Solves}
@@ -30,6 +30,7 @@ use Rattle.cf_cases.proofs.PlacedLaws.{placed-rel}
 use Rattle.cf_venn.specs.Columns.{known_values, column_values, outputs_from}
 use Rattle.cf_venn.specs.Laws.{AreOutputs}
 use Rattle.cf_venn.proofs.OutputLaws.{forms_at, sets_have_counts, counts_have_sets}
+use Rattle.cf_choose.proofs.ArmBuilderLemmas.{length_have}
 use Rattle.cf_choose.proofs.ChooseLevels.{are_outputs}
 use Rattle.cf_choose.proofs.GiveForms.{AreGiven}
 use Rattle.cf_choose.proofs.ItemLemmas.{none_is_some}
@@ -40,14 +41,17 @@ use Rattle.cf_formula.specs.Writing.{first_columns, first_conditions}
 use Rattle.cf_plan.specs.declared.limits.TheConstants.{MOST_DEPTH}
 use Rattle.cf_plan.specs.declared.why.Why.TheVariants.{Depth, Refused}
 use Rattle.cf_plan.specs.Following.{Fault, Progress, follow, no_progress}
+use Rattle.cf_plan.specs.Growth.{HaveSizes, growth, growth_of, greatest_size}
 use Rattle.cf_plan.specs.Laws.{AreColumns, EachNext, SomeNext, IsReached}
 use Rattle.cf_plan.specs.Leaves.{leaf_arm, leaf_passes}
 use Rattle.cf_plan.specs.Made.{IsMadeFrom}
-use Rattle.cf_plan.specs.Planned.{any_code, no_arm, arms_or_none, layout, start, leaf_arms, solved_by, planned, PlannedMeans, PlannedIsShallow}
+use Rattle.cf_plan.specs.Planned.{any_code, no_arm, arms_or_none, layout, start, leaf_arms, solved_by, planned, PlannedMeans, PlannedIsShallow, MetWithin}
 use Rattle.cf_plan.specs.Plans.{PlanTree}
 use Rattle.cf_plan.specs.Ready.{IsReady}
+use Rattle.cf_plan.proofs.GrowthScales.{growth_holds}
 use Rattle.cf_plan.proofs.LeafArms.{IsLeafArm, leaf_arm_of}
 use Rattle.cf_plan.proofs.LeafEnds.{given_more}
+use Rattle.cf_plan.proofs.MeasuredLaws.{leaves_fit}
 use Rattle.cf_plan.proofs.PlanLaws.{Nothing, first_ready, act_lawful}
 use Rattle.cf_plan.proofs.StartLaws.{first-columns, first-over, LeadsTo, Solves as PlanSolves, plan-solves}
 use Rattle.cf_plan.proofs.TreeLaws.{plan_leads, on_ok_so}
@@ -227,3 +231,17 @@ planned_is_shallow q t c e =
     let s = solved_so q h.leaves.0 c h.solved in
     let l = s.1 in
     subst (λ d. code_depth d ≤ 1 + MOST_DEPTH) s.2 (omega arith)
+
+-- ---- growth
+have_sizes : (env : List Value) (m : ℕ) → greatest_size env ≤ m → HaveSizes (replicate (length env) m) env
+have_sizes [] m h = tt
+have_sizes (v ∷ env) m h = (omega arith, have_sizes env m (omega arith))
+
+pub met_within : MetWithin
+met_within q t c e env have =
+    let h = taken q t c e in
+    let s = solved_so q h.leaves.0 c h.solved in
+    let m = 1 + greatest_size env in
+    let g = growth_holds q.number (leaf_arms q h.leaves.0) (leaves_fit (layout q) q.outputs h.leaves.0) env m (omega arith) (have_sizes env m (omega arith)) in
+    subst (λ d. peak d env ≤ growth_of (length q.scope) d * m) s.2
+    (subst (λ n. peak (code_solve q.number (leaf_arms q h.leaves.0)) env ≤ growth n (leaf_arms q h.leaves.0) * m) (length_have q.scope env have) g)

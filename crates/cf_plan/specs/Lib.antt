@@ -1,5 +1,6 @@
 pub mod Cleaning
 pub mod Following
+pub mod Growth
 pub mod Holding
 pub mod Laws
 pub mod Leaves

@@ -1,5 +1,5 @@
 -- The code of a choose by a plan.
-use Rattle.std.specs.Prelude.{◌≡◌, ◌+◌, ◌≤◌, pos, List, [], ◌∷◌, ◌++◌, map, All, nat_lt, false, Result, Ok, Err, if◌then◌else◌}
+use Rattle.std.specs.Prelude.{◌≡◌, ◌+◌, ◌*◌, ◌≤◌, pos, List, [], ◌∷◌, ◌++◌, length, map, All, nat_lt, false, Result, Ok, Err, if◌then◌else◌}
 use Rattle.std.specs.List.{list_any}
 use Rattle.cf_tree.specs.declared.base.Base.{Base}
 use Rattle.cf_tree.specs.declared.base.Base.TheVariants.{Int, Bool, Set}
@@ -7,7 +7,7 @@ use Rattle.cf_tree.specs.declared.base.Order.TheVariants.{Eq}
 use Rattle.cf_tree.specs.Allowed.{Chosen}
 use Rattle.cf_tree.specs.ChooseTree.{ChooseTree}
 use Rattle.cf_tree.specs.CodeTree.{CodeTree, code_lit, code_set_of, code_truth, code_compare, code_depth, code_solve, no_codes, need_item, ArmTree, arm_of, ArmTrees, arms_of, arms_depth, codes_of, items_of}
-use Rattle.cf_tree.specs.Meaning.{means}
+use Rattle.cf_tree.specs.Meaning.{means, peak}
 use Rattle.cf_tree.specs.Relation.{Sol, IsTyped, IsLinear}
 use Rattle.cf_tree.specs.Values.{Value, HaveBases}
 use Rattle.cf_linear.specs.declared.refusal.LimitKind.TheVariants.{Sets}
@@ -21,6 +21,7 @@ use Rattle.cf_formula.specs.Writing.{first_columns, first_conditions}
 use Rattle.cf_plan.specs.declared.limits.TheConstants.{MOST_DEPTH}
 use Rattle.cf_plan.specs.declared.why.Why.TheVariants.{Depth, Refused}
 use Rattle.cf_plan.specs.Following.{Fault, Progress, on_ok, follow, no_progress}
+use Rattle.cf_plan.specs.Growth.{growth_of, greatest_size}
 use Rattle.cf_plan.specs.Laws.{first_state, IsPlan}
 use Rattle.cf_plan.specs.Leaves.{leaf_arm, leaf_passes}
 use Rattle.cf_plan.specs.Plans.{PlanTree}
@@ -78,3 +79,8 @@ PlannedMeans = (q : ChooseTree) (t : PlanTree) (c : CodeTree) → IsChoose q →
 -- and it is not deep
 abbrev pub PlannedIsShallow : Type 0
 PlannedIsShallow = (q : ChooseTree) (t : PlanTree) (c : CodeTree) → planned q t ≡ Ok c → code_depth c ≤ 1 + MOST_DEPTH
+
+-- and meets no number past its growth times 1 more than the greatest number or set size in scope
+abbrev pub MetWithin : Type 0
+MetWithin = (q : ChooseTree) (t : PlanTree) (c : CodeTree) → planned q t ≡ Ok c → (env : List Value) → HaveBases q.scope env →
+    peak c env ≤ growth_of (length q.scope) c * (1 + greatest_size env)
