@@ -107,7 +107,7 @@ pub with_facts-hold : (v : Values) → v 0 ≡ pos 1 → (rows facts : List Row)
 with_facts-hold v one [] facts h k = h
 with_facts-hold v one (r ∷ rows) facts h k = with_facts-hold v one rows (with_fact facts r) (with_fact-holds v one facts r h k.0) k.1
 
-bounds_hold : (v : Values) → v 0 ≡ pos 1 → (bs : List (ℕ × ℕ)) → Within v bs → EachRow (IsNonneg v) (flat_map bound_rows bs)
+pub bounds_hold : (v : Values) → v 0 ≡ pos 1 → (bs : List (ℕ × ℕ)) → Within v bs → EachRow (IsNonneg v) (flat_map bound_rows bs)
 bounds_hold v one [] h = tt
 bounds_hold v one ((k, p) ∷ bs) h =
     let low = h.0 in

@@ -45,7 +45,7 @@ use Rattle.cf_plan.proofs.ReadyLaws.{ready_same, not_rejected, counted_so, filte
 use Rattle.cf_plan.proofs.StepLaws.{subst_over}
 
 -- ---- one of a list of rows
-row_and_rest : (P : Row → Type 0) (rows : List Row) (i : ℕ) (e : Row) → slice_get rows i ≡ Some e →
+pub row_and_rest : (P : Row → Type 0) (rows : List Row) (i : ℕ) (e : Row) → slice_get rows i ≡ Some e →
     EachRow P rows ↔ (P e × EachRow P (take i rows ++ drop (suc i) rows))
 row_and_rest P [] i e s = cc
 row_and_rest P (r ∷ rows) zero e s = let q : r ≡ e = cc in ((λ h. (subst P q h.0, h.1)), (λ h. (subst P (sym q) h.0, h.1)))

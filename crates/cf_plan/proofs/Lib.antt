@@ -3,6 +3,8 @@ pub mod BoundLaws
 pub mod ConditionLaws
 pub mod CountCodes
 pub mod EndLaws
+pub mod ForgetExamples
+pub mod ForgetLaws
 pub mod FormulaCodes
 pub mod GrowthExamples
 pub mod GrowthLaws
@@ -22,6 +24,8 @@ pub mod PlannedExamples
 pub mod PlannedLaws
 pub mod PutLaws
 pub mod ReadyLaws
+pub mod ResidueExamples
+pub mod ResidueLaws
 pub mod RoundLaws
 pub mod StartLaws
 pub mod StepLaws

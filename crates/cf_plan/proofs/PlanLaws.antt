@@ -10,13 +10,15 @@ use Rattle.cf_plan.specs.declared.why.Why.TheVariants.{Refused}
 use Rattle.cf_plan.specs.Cleaning.{needed_next, rounded_next, least_next, rows_cleaned, formulas_next, cleaned}
 use Rattle.cf_plan.specs.Following.{no_progress}
 use Rattle.cf_plan.specs.Laws.{IsColumn, AreColumns, AreOver, first_state, IsAct, EachNext, SomeNext, IsReached, LeadsBack, EveryPlanSolves}
-use Rattle.cf_plan.specs.Plans.{ActTree, act_simplify, act_clean, act_drop, act_last, act_search, act_turn, act_shift}
+use Rattle.cf_plan.specs.Plans.{ActTree, act_simplify, act_clean, act_drop, act_last, act_search, act_turn, act_shift, act_residue, act_forget}
 use Rattle.cf_plan.specs.Ready.{IsReady, IsLawfulAt}
 use Rattle.cf_plan.specs.Stepping.{stepped, clean_passes, counted}
 use Rattle.cf_plan.proofs.BoundLaws.{search_lawful, drop_lawful}
+use Rattle.cf_plan.proofs.ForgetLaws.{forget_lawful}
 use Rattle.cf_plan.proofs.LastStep.{last_lawful}
 use Rattle.cf_plan.proofs.NeedLaws.{needed_lawful, formulas_lawful}
 use Rattle.cf_plan.proofs.ReadyLaws.{not_rejected, counted_so}
+use Rattle.cf_plan.proofs.ResidueLaws.{residue_lawful}
 use Rattle.cf_plan.proofs.RoundLaws.{rounded_lawful, least_lawful}
 use Rattle.cf_plan.proofs.StepLaws.{simplify_lawful, shift_lawful}
 use Rattle.cf_plan.proofs.TreeLaws.{then_lawful, plan_leads}
@@ -58,6 +60,8 @@ act_lawful Given (act_last i) s n w r e = last_lawful Given i s n r e
 act_lawful Given (act_search x lower) s n w r e = search_lawful Given x lower s n r e
 act_lawful Given (act_turn xs ms ns) s n w r e = turn_lawful Given xs ms ns s n r e
 act_lawful Given (act_shift x row) s n w r e = shift_lawful Given x row s n w r e
+act_lawful Given (act_residue x k) s n w r e = residue_lawful Given x k s n r e
+act_lawful Given (act_forget i k sum) s n w r e = forget_lawful Given i k sum s n r e
 
 -- ---- the plan
 some_reached : (known : List ℕ) (v : Values) (ns : List Next) → SomeBranch (GoesOn known v) (map branch_of ns) → SomeNext (IsReached known v) ns

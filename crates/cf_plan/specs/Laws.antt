@@ -8,7 +8,7 @@ use Rattle.cf_formula.specs.Formulas.{EachAtom, EachFormula}
 use Rattle.cf_formula.specs.Items.{AllMet}
 use Rattle.cf_formula.specs.States.{Conditions, Model, Columns, State, Next}
 use Rattle.cf_plan.specs.Following.{Progress, follow, no_progress}
-use Rattle.cf_plan.specs.Plans.{ActTree, act_simplify, act_clean, act_drop, act_last, act_search, act_turn, act_shift, PlanTree, plan_node, PlanTrees, no_plans, plan_more}
+use Rattle.cf_plan.specs.Plans.{ActTree, act_simplify, act_clean, act_drop, act_last, act_search, act_turn, act_shift, act_residue, act_forget, PlanTree, plan_node, PlanTrees, no_plans, plan_more}
 
 -- ---- the first state
 -- a known or an unknown column
@@ -46,6 +46,8 @@ IsAct (act_last i) = Unit {0}
 IsAct (act_search x lower) = Unit {0}
 IsAct (act_turn xs ms ns) = Unit {0}
 IsAct (act_shift x row) = Rises 0 row
+IsAct (act_residue x k) = Unit {0}
+IsAct (act_forget i n sum) = Unit {0}
 
 abbrev pub EachAct : List ActTree → Type 0
 EachAct [] = Unit {0}

@@ -9,3 +9,4 @@ pub mod Planned
 pub mod Plans
 pub mod Ready
 pub mod Stepping
+pub mod Summing

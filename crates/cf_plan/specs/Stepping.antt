@@ -1,23 +1,25 @@
 -- What a step makes of a state, or why it is rejected.
-use Rattle.std.specs.Prelude.{ℕ, suc, ◌+◌, ◌==◌, ◌-ℤ◌, ℤ, pos, negsuc, neg_ℤ, unsigned_abs, List, [], ◌∷◌, ◌++◌, length, map, take, drop, filter, Bool, true, false, not, ◌&&◌, ◌||◌, nat_lt, slice_get, Option, Some, None, Result, Ok, Err, if◌then◌else◌}
+use Rattle.std.specs.Prelude.{int_lt, ℕ, suc, ◌+◌, ◌==◌, ◌-ℤ◌, ℤ, pos, negsuc, neg_ℤ, unsigned_abs, List, [], ◌∷◌, ◌++◌, length, map, take, drop, filter, Bool, true, false, not, ◌&&◌, ◌||◌, nat_lt, slice_get, Option, Some, None, Result, Ok, Err, if◌then◌else◌}
 use Rattle.std.specs.List.{list_any, list_all, fold, flat_map}
 use Rattle.cf_linear.specs.declared.refusal.LimitKind.TheVariants.{Rows, Columns as ColumnLimit, Search}
 use Rattle.cf_linear.specs.declared.refusal.Refusal.TheVariants.{Past, Limit}
 use Rattle.cf_linear.specs.declared.refusal.TheConstants.{MOST_ROWS, MOST_COLUMNS, MOST_TUPLES}
-use Rattle.cf_linear.specs.Rows.{Row, entry, is_zero, row_passes, comb, without, subst_passes}
+use Rattle.cf_linear.specs.Rows.{Row, entry, is_zero, row_passes, comb, comb_passes, without, subst_passes}
 use Rattle.cf_linear.specs.Stages.{times_bound}
-use Rattle.cf_linear.specs.Steps.{has_column, present, one_at, is_unit, solved_row, lowers, uppers, replaced, searched, dropped, drop_passes}
+use Rattle.cf_linear.specs.Steps.{has_column, present, one_at, is_unit, two_at, solved_row, lowers, uppers, replaced, searched, dropped, drop_passes}
 use Rattle.cf_linear.specs.Systems.{System, Answer, floor_of as step_floor, need_divides as step_divides}
 use Rattle.cf_formula.specs.Atoms.{ge}
 use Rattle.cf_formula.specs.Items.{item_of}
 use Rattle.cf_formula.specs.Simplifying.{simplified}
 use Rattle.cf_formula.specs.States.{Conditions, add_all, changed, Columns, State, Next, bare, with_conditions}
+use Rattle.cf_formula.specs.Sums.{sum_row}
 use Rattle.cf_formula.specs.Turns.{times, identity, subst_rows, backs, turn_pairs}
 use Rattle.cf_plan.specs.declared.why.Why.{Why}
-use Rattle.cf_plan.specs.declared.why.Why.TheVariants.{Unknown, HeldByEquation, HeldByFormula, Exact, Single, Inverse, Known, Refused}
+use Rattle.cf_plan.specs.declared.why.Why.TheVariants.{Unknown, HeldByEquation, HeldByFormula, Exact, Single, Inverse, Known, Bound, Row as NoRow, Multiplier, Implied, Refused}
 use Rattle.cf_plan.specs.Cleaning.{with_facts, cleaned}
 use Rattle.cf_plan.specs.Holding.{is_in_equation, is_in_formula, all_rows}
-use Rattle.cf_plan.specs.Plans.{ActTree, act_simplify, act_clean, act_drop, act_last, act_search, act_turn, act_shift}
+use Rattle.cf_plan.specs.Plans.{Source, ActTree, act_simplify, act_clean, act_drop, act_last, act_search, act_turn, act_shift, act_residue, act_forget}
+use Rattle.cf_plan.specs.Summing.{and_then, parts_of, parts_pass, follows}
 
 abbrev pub Stepped : Type 0
 Stepped = Result Next Why
@@ -251,6 +253,58 @@ drop_stepped x s =
     rejected_if (drop_passes (system_of s) x) (Refused Past) (
     counted (dropped_next a s))))))
 
+-- ---- residue
+-- x is a search column below k, and k times a new unknown
+abbrev pub residue_row : ℕ → ℕ → Row
+residue_row n k = two_at (pos 1) n (pos k) (n + 1)
+
+abbrev pub residue_columns : ℕ → Columns → Columns
+residue_columns x k = record { known = k.known ++ (k.next ∷ []); unknown = replaced x (k.next + 1) k.unknown; next = k.next + 2 }
+
+abbrev pub residue_next : ℕ → ℕ → State → Next
+residue_next x k s =
+    let n = gone_next ((x, residue_row s.columns.next k) ∷ []) (residue_columns x s.columns) s.conditions s in
+    record {
+      state = record {
+        columns = n.state.columns;
+        facts = with_facts s.facts (bound_rows (s.columns.next, k));
+        shared = s.shared;
+        conditions = n.state.conditions;
+        needs = s.needs;
+        tuples = times_bound s.tuples (s.columns.next, k);
+      };
+      bounds = (s.columns.next, k) ∷ [];
+      items = [];
+      back = n.back;
+    }
+
+abbrev pub residue_stepped : ℕ → ℕ → State → Stepped
+residue_stepped x k s =
+    rejected_if (not (has_column s.columns.unknown x)) Unknown (
+    rejected_if (nat_lt k 2) Bound (
+    rejected_if (gone_passes ((x, residue_row s.columns.next k) ∷ []) s.conditions) (Refused Past) (
+    counted (residue_next x k s))))
+
+-- ---- forget
+abbrev pub without_inequality : ℕ → State → State
+without_inequality i s = with_conditions s (record {
+  equations = s.conditions.equations;
+  inequalities = take i s.conditions.inequalities ++ drop (suc i) s.conditions.inequalities;
+  pending = s.conditions.pending;
+  dead = s.conditions.dead;
+})
+
+-- row r, which is inequality i, goes where it follows, n times, from the sum of the parts
+abbrev pub forgotten : ℕ → ℤ → Row → State → List (Row × ℤ) → Stepped
+forgotten i n r s parts =
+    rejected_if (parts_pass parts || comb_passes n r (negsuc 0) (sum_row parts)) (Refused Past) (
+    rejected_if (not (follows n r parts)) Implied (
+    Ok (bare (without_inequality i s))))
+
+abbrev pub forget_at : ℕ → ℤ → List (Source × ℤ) → Option Row → State → Stepped
+forget_at i n sum None s = Err NoRow
+forget_at i n sum (Some r) s = rejected_if (int_lt n (pos 1)) Multiplier (and_then (parts_of i s sum) (forgotten i n r s))
+
 -- ---- each step
 abbrev pub simplified_next : State → Next
 simplified_next s = bare (with_conditions s (simplified s.facts s.conditions))
@@ -267,3 +321,5 @@ stepped (act_last i) s = last_at i (slice_get s.conditions.equations i) s
 stepped (act_search x lower) s = search_stepped x lower s
 stepped (act_turn xs ms ns) s = turned xs ms ns s
 stepped (act_shift x row) s = shifted x row s
+stepped (act_residue x k) s = residue_stepped x k s
+stepped (act_forget i n sum) s = forget_at i n sum (slice_get s.conditions.inequalities i) s

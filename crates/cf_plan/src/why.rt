@@ -22,6 +22,14 @@ pub enum Why {
     Left,
     /// The state at `close` is not contradictory.
     Consistent,
+    /// A residue is of a number below 2.
+    Bound,
+    /// The named row is missing, or is the one that is to follow.
+    Row,
+    /// A row that is at least 0 is taken times a number below 0, or the row that is to follow times one below 1.
+    Multiplier,
+    /// A row does not follow from the sum.
+    Implied,
     /// The named formula is missing.
     Formula,
     /// An end has another number of branches.
