@@ -27,6 +27,7 @@ pub mod ReadyLaws
 pub mod ResidueExamples
 pub mod ResidueLaws
 pub mod RoundLaws
+pub mod SplitExamples
 pub mod StartLaws
 pub mod StepLaws
 pub mod TreeLaws

@@ -17,7 +17,7 @@ use Rattle.cf_plan.specs.declared.limits.TheConstants.{MOST_LEAVES, MOST_STEPS}
 use Rattle.cf_plan.specs.declared.why.Why.{Why}
 use Rattle.cf_plan.specs.declared.why.Why.TheVariants.{Leaves, Steps}
 use Rattle.cf_plan.specs.Following.{Fault, Progress, on_ok, placed, after_first, steps_of, Ended, leaf, branches, is_over, ended, plan_count, Followed, then_leaves, before_leaves, begun, leaf_at, at_end, follow, follow_all}
-use Rattle.cf_plan.specs.Laws.{IsAct, EachAct, IsPlan, ArePlans, EachNext}
+use Rattle.cf_plan.specs.Laws.{IsAct, EachAct, IsPlan, ArePlans, EachNext, IsEnd}
 use Rattle.cf_plan.specs.Made.{IsMadeFrom}
 use Rattle.cf_plan.specs.Plans.{ActTree, EndTree, PlanTree, plan_node, PlanTrees, no_plans, plan_more}
 use Rattle.cf_plan.specs.Ready.{IsReady, IsLawfulAt, AreLeaves}
@@ -240,29 +240,29 @@ module _ (lawful : (Given : Values → Type 0) (act : ActTree) (s : State) (n : 
 
   end_leads : (Given : Values → Type 0) (end : EndTree) (n : ℕ) (k : List State → Followed) (p : Progress) (s : State) (o : Result Ended Why)
       (q : List Next × Progress) →
-      IsReady Given s → ((ss : List State) → EachState (IsReady Given) ss → k ss ≡ Ok q → AllLeaves Given ss q.0) → ended end n s ≡ o → at_end k p s o ≡ Ok q →
+      IsEnd end → IsReady Given s → ((ss : List State) → EachState (IsReady Given) ss → k ss ≡ Ok q → AllLeaves Given ss q.0) → ended end n s ≡ o → at_end k p s o ≡ Ok q →
       AreLeaves Given s q.0
-  end_leads Given end n k p s (Err w) q r again g e = cc e
-  end_leads Given end n k p s (Ok leaf) q r again g e = leaf_so Given p s q r (leaf_over end n s g) e
-  end_leads Given end n k p s (Ok (branches ss)) q r again g e =
-      let h = branches_parted Given end n s ss r g in
+  end_leads Given end n k p s (Err f) q w r again g e = cc e
+  end_leads Given end n k p s (Ok leaf) q w r again g e = leaf_so Given p s q r (leaf_over end n s g) e
+  end_leads Given end n k p s (Ok (branches ss)) q w r again g e =
+      let h = branches_parted Given end n s ss w r g in
       parted_leaves Given s ss q.0 r h (again ss h.ready e)
 
   node_leads : (Given : Values → Type 0) (acts : List ActTree) (end : EndTree) (arms : PlanTrees) (p : Progress) (s : State) (q : List Next × Progress) →
-      EachAct acts → IsReady Given s →
+      EachAct acts → IsEnd end → IsReady Given s →
       ((n : Next) (ss : List State) (u : List Next × Progress) → EachState (IsReady (GivenIn Given (branch_of n))) ss →
       follow_all arms (begun p acts) ss ≡ Ok u →
       AllLeaves (GivenIn Given (branch_of n)) ss u.0) →
       on_ok (λ n. then_leaves n (at_end (λ ss. follow_all arms (begun p acts) ss) (begun p acts) n.state (ended end (plan_count arms) n.state)))
       (steps_of (begun p acts).nodes 1 acts s) ≡ Ok q → AreLeaves Given s q.0
-  node_leads Given acts end arms p s q w r again e =
+  node_leads Given acts end arms p s q w x r again e =
       let b = begun p acts in
       let rest = λ (n : Next). at_end (λ ss. follow_all arms b ss) b n.state (ended end (plan_count arms) n.state) in
       let a = on_ok_so (λ n. then_leaves n (rest n)) (steps_of b.nodes 1 acts s) q e in
       let n = a.0 in
       let h = steps_lawful Given b.nodes 1 acts s n w r a.1 in
       let u = on_ok_so (λ (x : List Next × Progress). Ok (map (then_next n) x.0, x.1)) (rest n) q a.2 in
-      let l = end_leads (GivenIn Given (branch_of n)) end (plan_count arms) (λ ss. follow_all arms b ss) b n.state (ended end (plan_count arms) n.state) u.0
+      let l = end_leads (GivenIn Given (branch_of n)) end (plan_count arms) (λ ss. follow_all arms b ss) b n.state (ended end (plan_count arms) n.state) u.0 x
       h.ready
       (λ ss. again n ss u.0) refl u.1 in
       subst (AreLeaves Given s) (ap (λ (x : List Next × Progress). x.0) (same_ok (map (then_next n) u.0.0, u.0.1) q u.2))
@@ -276,8 +276,8 @@ module _ (lawful : (Given : Values → Type 0) (act : ActTree) (s : State) (n : 
     plan_leads Given (plan_node acts end arms) p s q w r e =
         on_bool (nat_lt MOST_STEPS (begun p acts).steps)
         (λ i. let j : Err ((begun p acts).nodes, 0, Steps) ≡ Ok q = rw i at e in cc)
-        (λ i. node_leads Given acts end arms p s q w.0 r
-        (λ n ss u. all_lead (GivenIn Given (branch_of n)) arms (begun p acts) ss u w.1) (rw i at e))
+        (λ i. node_leads Given acts end arms p s q w.0 w.1 r
+        (λ n ss u. all_lead (GivenIn Given (branch_of n)) arms (begun p acts) ss u w.2) (rw i at e))
 
     all_lead : (Given : Values → Type 0) (ts : PlanTrees) (p : Progress) (ss : List State) (q : List Next × Progress) → ArePlans ts →
         EachState (IsReady Given) ss →

@@ -1,13 +1,18 @@
 -- A plan followed from a state: its leaves, or where it is rejected and why.
-use Rattle.std.specs.Prelude.{ℕ, suc, ◌+◌, ◌==◌, List, [], ◌∷◌, ◌++◌, length, map, take, drop, Bool, not, ◌||◌, nat_lt, slice_get, Option, Some, None, Result, Ok, Err, if◌then◌else◌}
+use Rattle.std.specs.Prelude.{ℕ, suc, ◌+◌, ◌==◌, List, [], ◌∷◌, ◌++◌, length, map, take, drop, Bool, not, ◌||◌, nat_lt, slice_get, Option, Some, None, Result, Ok, Err, if◌then◌else◌, negsuc}
+use Rattle.std.specs.List.{list_all}
+use Rattle.cf_linear.specs.declared.refusal.Refusal.TheVariants.{Past}
+use Rattle.cf_linear.specs.Rows.{Row, row_passes, comb}
+use Rattle.cf_linear.specs.Steps.{has_column, one_at}
+use Rattle.cf_formula.specs.Atoms.{ge}
 use Rattle.cf_formula.specs.Formulas.{Formula}
 use Rattle.cf_formula.specs.Members.{disjuncts}
 use Rattle.cf_formula.specs.Simplifying.{is_refuted}
 use Rattle.cf_formula.specs.States.{Conditions, add, State, Next, bare, then_next, with_conditions}
 use Rattle.cf_plan.specs.declared.limits.TheConstants.{MOST_LEAVES, MOST_STEPS}
 use Rattle.cf_plan.specs.declared.why.Why.{Why}
-use Rattle.cf_plan.specs.declared.why.Why.TheVariants.{Left, Consistent, Formula as NoFormula, Branches, Leaves, Steps}
-use Rattle.cf_plan.specs.Plans.{ActTree, EndTree, end_over, end_close, end_or, PlanTree, plan_node, PlanTrees, no_plans, plan_more}
+use Rattle.cf_plan.specs.declared.why.Why.TheVariants.{Left, Consistent, Formula as NoFormula, Branches, Leaves, Steps, Column, Refused}
+use Rattle.cf_plan.specs.Plans.{ActTree, EndTree, end_over, end_close, end_or, end_split, PlanTree, plan_node, PlanTrees, no_plans, plan_more}
 use Rattle.cf_plan.specs.Stepping.{Stepped, stepped, counted}
 
 -- the number of a node in the order of the file, that of a step in it (0 for its end), and why
@@ -75,12 +80,27 @@ or_of i None s n = Err NoFormula
 or_of i (Some f) s n =
     (if length (disjuncts f) == n then all_counted (member_states i (disjuncts f) s) (member_states i (disjuncts f) s) else Err Branches)
 
+-- at least 0 where the row is below 0
+abbrev pub below_row : Row → Row
+below_row r = comb (negsuc 0) r (negsuc 0) (one_at 0)
+
+-- a state where the row is at least 0, and one where it is below
+abbrev pub split_states : Row → State → List State
+split_states r s = map (λ q. with_conditions s (add (ge q) s.conditions)) (r ∷ below_row r ∷ [])
+
+abbrev pub split_of : Row → State → ℕ → Result Ended Why
+split_of r s n =
+    (if not (list_all (λ (c, k). has_column (s.columns.known ++ s.columns.unknown) c) r) then Err Column
+    else if row_passes r || row_passes (below_row r) then Err (Refused Past)
+    else if n == 2 then all_counted (split_states r s) (split_states r s) else Err Branches)
+
 -- the end of a node with n branches
 abbrev pub ended : EndTree → ℕ → State → Result Ended Why
 ended end_over n s = (if is_over s.conditions then (if n == 0 then Ok leaf else Err Branches) else Err Left)
 ended end_close n s =
     (if s.conditions.dead || is_refuted s.facts s.conditions then (if n == 0 then Ok (branches []) else Err Branches) else Err Consistent)
 ended (end_or i) n s = or_of i (slice_get s.conditions.pending i) s n
+ended (end_split r) n s = split_of r s n
 
 -- ---- the tree
 abbrev pub plan_count : PlanTrees → ℕ

@@ -8,7 +8,7 @@ use Rattle.cf_formula.specs.Formulas.{EachAtom, EachFormula}
 use Rattle.cf_formula.specs.Items.{AllMet}
 use Rattle.cf_formula.specs.States.{Conditions, Model, Columns, State, Next}
 use Rattle.cf_plan.specs.Following.{Progress, follow, no_progress}
-use Rattle.cf_plan.specs.Plans.{ActTree, act_simplify, act_clean, act_drop, act_last, act_search, act_turn, act_shift, act_residue, act_forget, PlanTree, plan_node, PlanTrees, no_plans, plan_more}
+use Rattle.cf_plan.specs.Plans.{ActTree, act_simplify, act_clean, act_drop, act_last, act_search, act_turn, act_shift, act_residue, act_forget, EndTree, end_over, end_close, end_or, end_split, PlanTree, plan_node, PlanTrees, no_plans, plan_more}
 
 -- ---- the first state
 -- a known or an unknown column
@@ -53,9 +53,15 @@ abbrev pub EachAct : List ActTree → Type 0
 EachAct [] = Unit {0}
 EachAct (act ∷ acts) = IsAct act × EachAct acts
 
+abbrev pub IsEnd : EndTree → Type 0
+IsEnd end_over = Unit {0}
+IsEnd end_close = Unit {0}
+IsEnd (end_or i) = Unit {0}
+IsEnd (end_split row) = Rises 0 row
+
 abbrev mutual
   pub IsPlan : PlanTree → Type 0
-  IsPlan (plan_node acts end arms) = EachAct acts × ArePlans arms
+  IsPlan (plan_node acts end arms) = EachAct acts × IsEnd end × ArePlans arms
 
   pub ArePlans : PlanTrees → Type 0
   ArePlans no_plans = Unit {0}

@@ -21,11 +21,12 @@ pub data ActTree : Type 0 where
   act_residue : ℕ → ℕ → ActTree
   act_forget : ℕ → ℤ → List (Source × ℤ) → ActTree
 
--- nothing is left, nothing can hold, or a branch for each member of a pending formula
+-- nothing is left; nothing can hold; a branch for each member of a pending formula; one where a row is at least 0, and one where it is below
 pub data EndTree : Type 0 where
   end_over : EndTree
   end_close : EndTree
   end_or : ℕ → EndTree
+  end_split : Row → EndTree
 
 mutual
   pub data PlanTree : Type 0 where

@@ -1,5 +1,5 @@
 -- What a step makes of a state, or why it is rejected.
-use Rattle.std.specs.Prelude.{int_lt, ℕ, suc, ◌+◌, ◌==◌, ◌-ℤ◌, ℤ, pos, negsuc, neg_ℤ, unsigned_abs, List, [], ◌∷◌, ◌++◌, length, map, take, drop, filter, Bool, true, false, not, ◌&&◌, ◌||◌, nat_lt, slice_get, Option, Some, None, Result, Ok, Err, if◌then◌else◌}
+use Rattle.std.specs.Prelude.{ℕ, suc, ◌+◌, ◌==◌, ◌-ℤ◌, ℤ, pos, negsuc, neg_ℤ, unsigned_abs, List, [], ◌∷◌, ◌++◌, length, map, take, drop, filter, Bool, true, false, not, ◌&&◌, ◌||◌, nat_lt, int_lt, slice_get, Option, Some, None, Result, Ok, Err, if◌then◌else◌}
 use Rattle.std.specs.List.{list_any, list_all, fold, flat_map}
 use Rattle.cf_linear.specs.declared.refusal.LimitKind.TheVariants.{Rows, Columns as ColumnLimit, Search}
 use Rattle.cf_linear.specs.declared.refusal.Refusal.TheVariants.{Past, Limit}

@@ -18,11 +18,7 @@ pub enum Why {
     Inverse,
     /// A row of a `shift` holds a column that is not known.
     Known,
-    /// An equation, an inequality or a formula is left at `over`, or the state is dead.
-    Left,
-    /// The state at `close` is not contradictory.
-    Consistent,
-    /// A residue is of a number below 2.
+    /// The number of a `residue` is below 2.
     Bound,
     /// The named row is missing, or is the one that is to follow.
     Row,
@@ -30,10 +26,16 @@ pub enum Why {
     Multiplier,
     /// A row does not follow from the sum.
     Implied,
+    /// An equation, an inequality or a formula is left at `over`, or the state is dead.
+    Left,
+    /// The state at `close` is not contradictory.
+    Consistent,
     /// The named formula is missing.
     Formula,
     /// An end has another number of branches.
     Branches,
+    /// A row of a `split` holds a column that is neither known nor an unknown.
+    Column,
     /// There are too many arms.
     Leaves,
     /// There are too many steps and ends.
