@@ -271,7 +271,7 @@ exact_from rows x e =
     low hl (not_any (λ l. list_any (λ u. not (is_unit (entry l x) || is_unit (entry u x))) high) low e)
 
 -- ---- drop
-any_split : (p : Row → Bool) (xs ys : List Row) → list_any p (xs ++ ys) ≡ false → (list_any p xs ≡ false) × (list_any p ys ≡ false)
+pub any_split : (p : Row → Bool) (xs ys : List Row) → list_any p (xs ++ ys) ≡ false → (list_any p xs ≡ false) × (list_any p ys ≡ false)
 any_split p [] ys e = (refl, e)
 any_split p (r ∷ xs) ys e =
     let h = or_false (p r) (list_any p (xs ++ ys)) e in

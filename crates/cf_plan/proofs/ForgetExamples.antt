@@ -1,5 +1,5 @@
 -- Inequalities that go, and why one stays. Columns: 0 the constant, 1 a parameter that is at least 0, then two outputs that are equal.
-use Rattle.std.proofs.Common.{◌≡◌, ℕ, ◌^◌, ℤ, pos, negsuc, neg_ℤ, List, [], ◌∷◌, false, Ok, Err, refl}
+use Rattle.std.proofs.Common.{◌≡◌, ◌^◌, ℤ, pos, negsuc, neg_ℤ, List, [], ◌∷◌, false, Ok, Err, refl}
 use Rattle.cf_linear.specs.declared.refusal.Refusal.TheVariants.{Past}
 use Rattle.cf_linear.specs.Rows.{Row}
 use Rattle.cf_formula.specs.States.{State, bare}

@@ -29,7 +29,7 @@ truth_at v (equal r) = int_eq (value v r) (pos 0)
 truth_at v (both f g) = truth_at v f && truth_at v g
 truth_at v (either f g) = truth_at v f || truth_at v g
 
-both_true : (a b : Bool) → a ≡ true → b ≡ true → (a && b) ≡ true
+pub both_true : (a b : Bool) → a ≡ true → b ≡ true → (a && b) ≡ true
 both_true true b e h = h
 both_true false b e h = cc e
 

@@ -87,6 +87,11 @@ size_at (n ∷ ns) (v ∷ vs) zero h = h.0
 size_at (n ∷ ns) (v ∷ vs) (suc x) h = size_at ns vs x h.1
 
 -- ---- quotients
+pub either_le : (n r : ℕ) → (n ≤ r) ⊎ (suc r ≤ n)
+either_le zero r = inl (omega arith)
+either_le (suc n) zero = inr (omega arith)
+either_le (suc n) (suc r) = ⊎_elim (λ l. inl (omega arith)) (λ l. inr (omega arith)) (either_le n r)
+
 pub up_enough : (n k : ℕ) → n ≤ suc k * rounded_up n (suc k)
 up_enough n k = let d = div-add-mod (n + k) (suc k) in let m : (n + k) % suc k < suc k = mod-lt (n + k) (omega arith) in omega arith
 
@@ -95,11 +100,6 @@ quotient_between z k r h l =
     let b = int_div_euclid-bounds z (pos k) (omega (arith, ints)) in
     between z (int_div_euclid z (pos k)) k r h l b.0 b.1
   where
-    either_le : (n r : ℕ) → (n ≤ r) ⊎ (suc r ≤ n)
-    either_le zero r = inl (omega arith)
-    either_le (suc n) zero = inr (omega arith)
-    either_le (suc n) (suc r) = ⊎_elim (λ l. inl (omega arith)) (λ l. inr (omega arith)) (either_le n r)
-
     by_le : (n r : ℕ) → (suc r ≤ n → ⊥) → n ≤ r
     by_le n r f = ⊎_elim (λ l. l) (λ g. absurd (f g)) (either_le n r)
 

@@ -1,5 +1,5 @@
 -- Where variables are at most m times as great, so is all that is met.
-use Rattle.std.proofs.Common.{◌≡◌, ℕ, zero, suc, ◌+◌, ◌*◌, ◌/◌, ◌≤◌, List, [], ◌∷◌, ◌++◌, length, replicate, true, ◌&&◌, refl, arith, inl, inr, ⊎_elim, ◌⊎◌}
+use Rattle.std.proofs.Common.{◌≡◌, ℕ, zero, suc, ◌+◌, ◌*◌, ◌/◌, ◌≤◌, List, [], ◌∷◌, ◌++◌, length, replicate, true, ◌&&◌, refl, arith, ⊎_elim}
 use Rattle.std.specs.Prelude.{max, unsigned_abs, slice_index_or}
 use Rattle.std.proofs.lemmas.Bool.{and_parts}
 use Rattle.std.proofs.lemmas.Nat.{mul-le}
@@ -7,7 +7,7 @@ use Rattle.std.proofs.Math.Nat.{div-add-mod, add-mul, mul-suc}
 use Rattle.cf_tree.specs.CodeTree.{CodeTree, code_lit, code_truth, code_var, code_set_of, code_tuple, code_sum, code_sub, code_mul, code_neg, code_div, code_mod, code_min, code_max, code_compare, code_divides, code_and, code_or, code_not, code_union, code_inter, code_diff, code_subset, code_card, code_slice, code_fresh, code_if, code_let, code_solve, CodeTrees, no_codes, code_more, ItemTrees, no_items, item_more, let_item, need_item, arm_of, ArmTrees, no_arms, arm_more, count}
 use Rattle.cf_plan.specs.Growth.{is_literal, is_measured, are_measured, rounded_up, most, gathered, met, met_all, items_measured, arms_measured, met_in, values_below, greatest_of, met_in_arms, growth, GrowthHolds}
 use Rattle.cf_plan.proofs.ArmGrowth.{solve_peak}
-use Rattle.cf_plan.proofs.GrowthLaws.{up_enough, measured_literal}
+use Rattle.cf_plan.proofs.GrowthLaws.{up_enough, measured_literal, either_le}
 
 -- ---- products
 mul_assoc : (a b c : ℕ) → a * b * c ≡ a * (b * c)
@@ -49,11 +49,6 @@ module _ (m : ℕ) (some : 1 ≤ m) where
       let a = mul-le (suc k) (suc r) (suc k) ((n + k) / suc k) (omega arith) g in
       let e = mul-suc (suc k) r in absurd (omega arith))
       (either_le (rounded_up n (suc k)) r)
-    where
-      either_le : (n r : ℕ) → (n ≤ r) ⊎ (suc r ≤ n)
-      either_le zero r = inl (omega arith)
-      either_le (suc n) zero = inr (omega arith)
-      either_le (suc n) (suc r) = ⊎_elim (λ l. inl (omega arith)) (λ l. inr (omega arith)) (either_le n r)
 
   up_scaled : (k a b : ℕ) → a ≤ b * m → rounded_up a k ≤ rounded_up b k * m
   up_scaled zero a b h = omega arith

@@ -1,5 +1,5 @@
 -- The codes of arms of leaves have the forms whose growth is told.
-use Rattle.std.proofs.Common.{◌≡◌, ℕ, ◌+◌, ◌%◌, ◌/◌, ◌^◌, ◌==◌, ℤ, pos, List, [], ◌∷◌, ◌++◌, map, filter, length, Bool, true, false, cond, ◌&&◌, refl}
+use Rattle.std.proofs.Common.{◌≡◌, ℕ, ◌+◌, ◌%◌, ◌/◌, ◌^◌, ◌==◌, ℤ, pos, List, [], ◌∷◌, ◌++◌, map, filter, length, true, cond, refl}
 use Rattle.std.specs.Prelude.{nat_lt}
 use Rattle.std.specs.List.{fold, range_with_len}
 use Rattle.std.specs.Ordering.{int_eq}
@@ -21,10 +21,7 @@ use Rattle.cf_formula.specs.States.{Next}
 use Rattle.cf_plan.specs.Growth.{is_measured, are_measured, items_measured, arms_measured}
 use Rattle.cf_plan.specs.Leaves.{formula_code, and_onto, or_onto, with_item, LeafBuilder, put_in, put_bounds, with_unknown, has_name, let_count, counted_masks, with_fresh, begun_leaf, computed_leaf, given_row, region_level, give_code, leaf_arm}
 use Rattle.cf_plan.specs.Planned.{any_code, arms_or_none}
-
-both_true : (a b : Bool) → a ≡ true → b ≡ true → (a && b) ≡ true
-both_true true b e h = h
-both_true false b e h = cc e
+use Rattle.cf_plan.proofs.FormulaCodes.{both_true}
 
 -- ---- lists of codes
 abbrev IsFit : CodeTree → Type 0

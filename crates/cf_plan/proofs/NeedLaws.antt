@@ -1,5 +1,5 @@
 -- Clean: what holds no unknown becomes a need.
-use Rattle.std.proofs.Common.{◌≡◌, ℕ, pos, List, [], ◌∷◌, ◌++◌, map, Bool, true, false, not, cond, ◌&&◌, refl, sym, ◌∙◌, arith, ◌⊎◌, inl, ⊎_elim, ◌↔◌, true≢false}
+use Rattle.std.proofs.Common.{◌≡◌, ℕ, pos, List, [], ◌∷◌, map, Bool, true, false, not, cond, ◌&&◌, refl, sym, ◌∙◌, arith, ◌⊎◌, inl, ⊎_elim, ◌↔◌, true≢false}
 use Rattle.std.specs.Prelude.{filter}
 use Rattle.std.specs.List.{fold, list_any}
 use Rattle.std.proofs.lemmas.Int.{ints}
@@ -28,7 +28,7 @@ use Rattle.cf_plan.specs.Holding.{atom_rows, holds_unknown}
 use Rattle.cf_plan.specs.Laws.{IsColumn, IsRowOver}
 use Rattle.cf_plan.specs.Made.{AreNeeds}
 use Rattle.cf_plan.specs.Ready.{IsReady, IsLawfulAt}
-use Rattle.cf_plan.proofs.BoundLaws.{with_facts-hold}
+use Rattle.cf_plan.proofs.BoundLaws.{with_facts-hold, any_split}
 use Rattle.cf_plan.proofs.ConditionLaws.{row_kind}
 use Rattle.cf_plan.proofs.MadeLaws.{AreNeeds-append, needs_each, needs_made}
 
@@ -252,13 +252,6 @@ each_unfilter P p (f ∷ fs) h k = by (p f) (each_unfilter P p fs) h k
 formulas_met : (v : Values) (fs : List Formula) → AllMet v (map need fs) ↔ EachFormula (Holds v) fs
 formulas_met v [] = ((λ h. h), (λ h. h))
 formulas_met v (f ∷ fs) = let i = formulas_met v fs in ((λ h. (h.0, i.0 h.1)), (λ h. (h.0, i.1 h.1)))
-
-any_split : (p : Row → Bool) (xs ys : List Row) → list_any p (xs ++ ys) ≡ false → (list_any p xs ≡ false) × (list_any p ys ≡ false)
-any_split p [] ys e = (refl, e)
-any_split p (r ∷ xs) ys e =
-    let h = or_parts (p r) (list_any p (xs ++ ys)) e in
-    let k = any_split p xs ys h.1 in
-    (rw (h.0, k.0) refl, k.1)
 
 -- a formula without unknowns is over known columns
 formula_known : (K : ℕ → Type 0) (xs : List ℕ) (f : Formula) → list_any (has_unknown xs) (atom_rows f) ≡ false →

@@ -1,11 +1,11 @@
 -- Residue: an unknown gives way to a search and a new unknown times the bound of the search.
-use Rattle.std.proofs.Common.{◌≡◌, ◌≢◌, ℕ, ◌+◌, ◌<◌, ◌≤◌, ◌==◌, pos, List, [], ◌∷◌, ◌++◌, not, Ok, refl, sym, ◌∙◌, arith, subst, ◌⊎◌, inl, inr, ⊎_elim, zero-le}
+use Rattle.std.proofs.Common.{◌≡◌, ◌≢◌, ℕ, ◌+◌, ◌<◌, ◌≤◌, ◌==◌, pos, List, [], ◌∷◌, not, Ok, refl, sym, ◌∙◌, arith, subst, ◌⊎◌, inl, inr, ⊎_elim, zero-le}
 use Rattle.std.specs.Prelude.{nat_lt}
 use Rattle.std.proofs.lemmas.Bool.{eqb-true, eqb-false, ltb-false}
 use Rattle.std.proofs.lemmas.List.Elements.{All-nil, All-cons}
 use Rattle.cf_linear.specs.declared.refusal.Refusal.TheVariants.{Past}
 use Rattle.cf_linear.specs.declared.refusal.TheConstants.{MOST_TUPLES}
-use Rattle.cf_linear.specs.Keep.{In, update, after_back}
+use Rattle.cf_linear.specs.Keep.{In, after_back}
 use Rattle.cf_linear.specs.Rows.{Row, Values, value}
 use Rattle.cf_linear.specs.Steps.{has_column, one_at}
 use Rattle.cf_linear.proofs.BoolLemmas.{on_bool}
@@ -13,7 +13,7 @@ use Rattle.cf_linear.proofs.CombLemmas.{Rises-comb}
 use Rattle.cf_linear.proofs.KindLemmas.{Over-comb, In-append, In-left, In-right}
 use Rattle.cf_linear.proofs.ValueLemmas.{update-other}
 use Rattle.cf_elim.proofs.SearchLaws.{IsSome}
-use Rattle.cf_formula.specs.Branches.{GivenIn, Grows, Leads}
+use Rattle.cf_formula.specs.Branches.{Grows, Leads}
 use Rattle.cf_formula.specs.States.{whole, changed, Columns, State, Next, branch_of}
 use Rattle.cf_formula.specs.Turns.{subst_rows, backs}
 use Rattle.cf_formula.proofs.BranchLaws.{given_in_known}
