@@ -102,7 +102,7 @@ ges_of v one f (m ∷ ms) = let i = ge-holds v one (f m) in let j = ges_of v one
 region-hold : (l : Layout) (v : Values) → v 0 ≡ pos 1 → EachFormula (Holds v) (region_formulas l) ↔ AreCounts l v
 region-hold l v one =
     let s = EachFormula-append (Holds v) (map (λ m. eq (input_row l m)) (masks (length l.inputs)))
-        (map (λ m. ge (put (region_column l m) (pos 1) [])) (masks (set_count l))) in
+    (map (λ m. ge (put (region_column l m) (pos 1) [])) (masks (set_count l))) in
     let i = eqs_of v one (input_row l) (masks (length l.inputs)) in
     let j = ges_of v one (λ m. put (region_column l m) (pos 1) []) (masks (set_count l)) in
     ((λ h. let k = s.0 h in record { sums = i.0 k.0; nonneg = j.0 k.1 }), (λ h. s.1 (i.1 h.sums, j.1 h.nonneg)))

@@ -146,18 +146,18 @@ module _ (v : Values) (one : v 0 ≡ pos 1) where
       let m = both_signs z k (value v s) (lt_so k (pos 0) t) in (
         (λ h. let q = c.0 h in subst (λ y. pos 0 ≤ℤ y) (sym e) (m.0 (subst (λ y. pos 0 ≤ℤ y) a (i.0 q.0), subst (λ y. pos 0 ≤ℤ y) b (j.0 q.1)))),
         (λ h.
-        let q = m.1 (subst (λ y. pos 0 ≤ℤ y) e h) in
-        c.1 (i.1 (subst (λ y. pos 0 ≤ℤ y) (sym a) q.0), j.1 (subst (λ y. pos 0 ≤ℤ y) (sym b) q.1))),
+            let q = m.1 (subst (λ y. pos 0 ≤ℤ y) e h) in
+            c.1 (i.1 (subst (λ y. pos 0 ≤ℤ y) (sym a) q.0), j.1 (subst (λ y. pos 0 ≤ℤ y) (sym b) q.1))),
       ))
       (λ t.
       let c = disj_two v one (with_abs up parts) (with_abs down parts) in
       let m = some_sign z k (value v s) (not_lt_so k (pos 0) (rw t refl)) in (
         (λ h.
-        subst (λ y. pos 0 ≤ℤ y) (sym e)
-        (m.0 (⊎_elim (λ q. inl (subst (λ y. pos 0 ≤ℤ y) a (i.0 q))) (λ q. inr (subst (λ y. pos 0 ≤ℤ y) b (j.0 q))) (c.0 h)))),
+            subst (λ y. pos 0 ≤ℤ y) (sym e)
+            (m.0 (⊎_elim (λ q. inl (subst (λ y. pos 0 ≤ℤ y) a (i.0 q))) (λ q. inr (subst (λ y. pos 0 ≤ℤ y) b (j.0 q))) (c.0 h)))),
         (λ h.
-        c.1 (⊎_elim (λ q. inl (i.1 (subst (λ y. pos 0 ≤ℤ y) (sym a) q))) (λ q. inr (j.1 (subst (λ y. pos 0 ≤ℤ y) (sym b) q)))
-        (m.1 (subst (λ y. pos 0 ≤ℤ y) e h)))),
+            c.1 (⊎_elim (λ q. inl (i.1 (subst (λ y. pos 0 ≤ℤ y) (sym a) q))) (λ q. inr (j.1 (subst (λ y. pos 0 ≤ℤ y) (sym b) q)))
+            (m.1 (subst (λ y. pos 0 ≤ℤ y) e h)))),
       ))
 
   least_by : (d : ℤ) (f : Flat) → Holds v (at_least_by d f) ↔ (d ≤ℤ flat_value v f)
@@ -195,8 +195,8 @@ module _ (v : Values) (one : v 0 ≡ pos 1) where
       let j = most_by (pos 1) f in (
         (λ h. ⊎_elim (λ k. let a = j.0 k in λ e. omega (arith, ints)) (λ k. let a = i.0 k in λ e. omega (arith, ints)) (c.0 h)),
         (λ h.
-        c.1 (⊎_elim (λ (k : pos 0 ≤ℤ flat_value v f). inr (i.1 (apart_above (flat_value v f) k h))) (λ (k : flat_value v f <ℤ pos 0). inl (j.1 (omega (arith, ints))))
-        (le_or_lt_z (pos 0) (flat_value v f)))),
+            c.1 (⊎_elim (λ (k : pos 0 ≤ℤ flat_value v f). inr (i.1 (apart_above (flat_value v f) k h))) (λ (k : flat_value v f <ℤ pos 0). inl (j.1 (omega (arith, ints))))
+            (le_or_lt_z (pos 0) (flat_value v f)))),
       )
     where
       apart_above : (z : ℤ) → pos 0 ≤ℤ z → z ≢ pos 0 → pos 1 ≤ℤ z

@@ -52,8 +52,8 @@ module _ (v : Values) (one : v 0 ≡ pos 1) (facts : List Row) (h : EachRow (IsN
       let each = λ (n : EachRow (IsNonneg v) c.inequalities). λ (z : EachRow (IsZero v) c.equations).
       all_settled (facts ++ sure c) (sure-nonneg c n z) c.pending in (
         (λ m.
-        let k = i.0 m in
-        record { alive = k.1.alive; zero = k.1.zero; nonneg = k.1.nonneg; pending = (each k.1.nonneg k.1.zero).0 k.0 }),
+            let k = i.0 m in
+            record { alive = k.1.alive; zero = k.1.zero; nonneg = k.1.nonneg; pending = (each k.1.nonneg k.1.zero).0 k.0 }),
         (λ m. i.1 ((each m.nonneg m.zero).1 m.pending, record { alive = m.alive; zero = m.zero; nonneg = m.nonneg; pending = tt })),
       )
     where

@@ -82,10 +82,10 @@ parts-hold v c =
     let j = equations-hold v c.equations in
     let k = inequalities-hold v c.inequalities in (
       (λ h.
-      let x = a.0 h in
-      let y = b.0 x.1 in
-      let z = d.0 y.1 in
-      record { alive = i.0 x.0; zero = j.0 y.0; nonneg = k.0 z.0; pending = z.1 }),
+          let x = a.0 h in
+          let y = b.0 x.1 in
+          let z = d.0 y.1 in
+          record { alive = i.0 x.0; zero = j.0 y.0; nonneg = k.0 z.0; pending = z.1 }),
       (λ h. a.1 (i.1 h.alive, b.1 (j.1 h.zero, d.1 (k.1 h.nonneg, h.pending)))),
     )
 
@@ -130,13 +130,13 @@ module _ (v w : Values) (one : w 0 ≡ pos 1) (change : Row → Row) (same : (r 
       let j = each_ge c.inequalities in
       let k = each_with_rows c.pending in (
         (λ h.
-        let x = o.0 h in
-        let y = a.0 x.0 in
-        let z = b.0 y.1 in
-        record { alive = x.1.alive; zero = i.0 y.0; nonneg = j.0 z.0; pending = k.0 z.1 }),
+            let x = o.0 h in
+            let y = a.0 x.0 in
+            let z = b.0 y.1 in
+            record { alive = x.1.alive; zero = i.0 y.0; nonneg = j.0 z.0; pending = k.0 z.1 }),
         (λ h.
-        o.1 (
-          a.1 (i.1 h.zero, b.1 (j.1 h.nonneg, k.1 h.pending)),
-          record { alive = h.alive; zero = tt; nonneg = tt; pending = tt },
-        )),
+            o.1 (
+              a.1 (i.1 h.zero, b.1 (j.1 h.nonneg, k.1 h.pending)),
+              record { alive = h.alive; zero = tt; nonneg = tt; pending = tt },
+            )),
       )

@@ -72,4 +72,3 @@ counted : written (layout_of (Set ∷ []) (Int ∷ Set ∷ []) (rel_compare Ge (
 }
 unfolding gcd_by write_atom
 counted = refl
-
