@@ -6,6 +6,7 @@ pub mod FlatLaws
 pub mod FlatOver
 pub mod FormulaLemmas
 pub mod ItemLaws
+pub mod KeyLemmas
 pub mod LiftLaws
 pub mod MemberLaws
 pub mod NearestLemmas
@@ -21,9 +22,11 @@ pub mod SimplifyLaws
 pub mod StateLaws
 pub mod SubstitutionLaws
 pub mod SumLaws
+pub mod TestLemmas
 pub mod TightExamples
 pub mod TightLaws
 pub mod TightLemmas
+pub mod TightRows
 pub mod TurnLaws
 pub mod WritingExamples
 pub mod WritingLaws

@@ -1,6 +1,7 @@
 pub mod Atoms
 pub mod Branches
 pub mod Facts
+pub mod FormulaView
 pub mod Formulas
 pub mod Items
 pub mod Members
