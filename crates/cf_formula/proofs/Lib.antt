@@ -5,12 +5,15 @@ pub mod FirstLaws
 pub mod FlatLaws
 pub mod FlatOver
 pub mod FormulaLemmas
+pub mod FormulaLists
 pub mod ItemLaws
 pub mod KeyLemmas
 pub mod LiftLaws
+pub mod MemberCode
 pub mod MemberLaws
 pub mod NearestLemmas
 pub mod NormalExamples
+pub mod OppositeRows
 pub mod OrLaws
 pub mod OverLaws
 pub mod PointLemmas

@@ -4,7 +4,7 @@ use Rattle.cf_num.specs.Divisors.{gcd_by}
 use Rattle.cf_linear.specs.Rows.{Row}
 use Rattle.cf_formula.specs.Formulas.{always, never, at_least, equal, both, either}
 use Rattle.cf_formula.specs.Atoms.{ge, eq}
-use Rattle.cf_formula.specs.Members.{conj, disj}
+use Rattle.cf_formula.specs.Members.{unmarked, conj, disj}
 use Rattle.cf_formula.specs.Rewriting.{substituted}
 use Rattle.cf_formula.specs.Facts.{settled, is_contradictory}
 
@@ -94,6 +94,11 @@ none_or = refl
 one_always : disj (at_least from_a ∷ always ∷ []) ≡ always
 unfolding from_a
 one_always = refl
+
+-- ---- marks
+one_left : unmarked (true ∷ false ∷ true ∷ []) (always ∷ at_least from_a ∷ never ∷ []) ≡ at_least from_a ∷ []
+unfolding from_a
+one_left = refl
 
 -- ---- rows in the place of columns, and facts
 -- x = a in `x >= a && x >= b || x <= 10`

@@ -22,6 +22,12 @@ abbrev pub distinct_formulas : List Formula → List Formula → List Formula
 distinct_formulas seen [] = []
 distinct_formulas seen (f ∷ fs) = (if is_among seen f then distinct_formulas seen fs else f ∷ distinct_formulas (f ∷ seen) fs)
 
+-- those whose marks are false
+abbrev pub unmarked : List Bool → List Formula → List Formula
+unmarked [] fs = []
+unmarked (b ∷ bs) [] = []
+unmarked (b ∷ bs) (f ∷ fs) = (if b then unmarked bs fs else f ∷ unmarked bs fs)
+
 -- ---- members
 -- of an `and`, in order
 abbrev pub conjuncts : Formula → List Formula
