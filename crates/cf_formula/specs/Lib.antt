@@ -1,5 +1,7 @@
+pub mod Answers
 pub mod Atoms
 pub mod Branches
+pub mod ConditionsView
 pub mod Facts
 pub mod FormulaView
 pub mod Formulas
@@ -7,7 +9,9 @@ pub mod Items
 pub mod Members
 pub mod Rewriting
 pub mod Simplifying
+pub mod StateView
 pub mod States
+pub mod SubstitutionView
 pub mod Sums
 pub mod Tight
 pub mod Turns

@@ -1,5 +1,5 @@
 -- Formulas with other atoms, in normal form.
-use Rattle.std.specs.Prelude.{ℕ, [], ◌∷◌}
+use Rattle.std.specs.Prelude.{ℕ, [], ◌∷◌, Bool, false, ◌||◌}
 use Rattle.cf_linear.specs.Rows.{Row, subst_row}
 use Rattle.cf_formula.specs.Formulas.{Formula, always, never, at_least, equal, both, either}
 use Rattle.cf_formula.specs.Atoms.{ge, eq}
@@ -21,3 +21,12 @@ with_rows change f = rewritten (λ r. ge (change r)) (λ r. eq (change r)) f
 -- with the row s in the place of column x
 abbrev pub substituted : ℕ → Row → Formula → Formula
 substituted x s f = with_rows (subst_row x s) f
+
+-- an atom whose row passes the test
+abbrev pub some_atom : (Row → Bool) → Formula → Bool
+some_atom p always = false
+some_atom p never = false
+some_atom p (at_least r) = p r
+some_atom p (equal r) = p r
+some_atom p (both f g) = some_atom p f || some_atom p g
+some_atom p (either f g) = some_atom p f || some_atom p g

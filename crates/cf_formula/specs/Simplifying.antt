@@ -29,12 +29,23 @@ same_formulas (f ∷ fs) (g ∷ gs) = same_formula f g && same_formulas fs gs
 abbrev pub settled_all : List Row → Conditions → List Formula
 settled_all facts c = map (settled (facts ++ sure c)) c.pending
 
+-- the conditions with the pending formulas as these rows settle them
+abbrev pub settled_with : List Row → Conditions → Conditions
+settled_with rows c = add_while (map (settled rows) c.pending) (without_pending c)
+
 abbrev pub settled_once : List Row → Conditions → Conditions
 settled_once facts c = add_while (settled_all facts c) (without_pending c)
 
 -- whether rows contradict each other
 abbrev pub is_refuted : List Row → Conditions → Bool
 is_refuted facts c = is_contradictory (facts ++ sure c)
+
+-- what one round makes, and whether it is the last one
+abbrev pub round : List Row → Conditions → Conditions
+round facts c = (if is_refuted facts c then killed c else settled_once facts c)
+
+abbrev pub is_last : List Row → Conditions → Bool
+is_last facts c = is_refuted facts c || ((settled_once facts c).dead || same_formulas (settled_all facts c) c.pending)
 
 -- over and over until nothing changes, at most n times
 abbrev pub simplified_within : ℕ → List Row → Conditions → Conditions

@@ -1,5 +1,5 @@
 -- Conditions: equations, inequalities and formulas that are to hold. States, and what a step makes of one.
-use Rattle.std.specs.Prelude.{◌≡◌, ℕ, ℤ, pos, ◌≤ℤ◌, List, [], ◌∷◌, ◌++◌, map, Bool, true, false, if◌then◌else◌}
+use Rattle.std.specs.Prelude.{◌≡◌, ℕ, ℤ, pos, ◌≤ℤ◌, List, [], ◌∷◌, ◌++◌, map, Bool, true, false, ◌||◌, if◌then◌else◌}
 use Rattle.std.specs.List.{list_any}
 use Rattle.cf_linear.specs.Rows.{Row, Values, value, same_row}
 use Rattle.cf_linear.specs.Systems.{EachRow, How}
@@ -8,7 +8,7 @@ use Rattle.cf_formula.specs.Branches.{Branch}
 use Rattle.cf_formula.specs.Formulas.{Formula, always, never, at_least, equal, both, either, Holds, EachFormula}
 use Rattle.cf_formula.specs.Items.{Item}
 use Rattle.cf_formula.specs.Members.{all_of}
-use Rattle.cf_formula.specs.Rewriting.{with_rows}
+use Rattle.cf_formula.specs.Rewriting.{with_rows, some_atom}
 
 -- ---- conditions
 -- dead conditions hold nowhere
@@ -44,8 +44,12 @@ abbrev pub add_all : List Formula → Conditions → Conditions
 add_all [] c = c
 add_all (f ∷ fs) c = add_all fs (add f c)
 
+-- without a row or a formula
+abbrev pub nothing_but : Bool → Conditions
+nothing_but b = record { equations = []; inequalities = []; pending = []; dead = b }
+
 abbrev pub no_conditions : Conditions
-no_conditions = record { equations = []; inequalities = []; pending = []; dead = false }
+no_conditions = nothing_but false
 
 -- the conditions as formulas, and as one
 abbrev pub parts : Conditions → List Formula
@@ -58,7 +62,11 @@ whole c = all_of (parts c)
 abbrev pub changed : (Row → Row) → Conditions → Conditions
 changed change c =
     add_all (map (λ r. eq (change r)) c.equations ++ (map (λ r. ge (change r)) c.inequalities ++ map (with_rows change) c.pending))
-    (record { equations = []; inequalities = []; pending = []; dead = c.dead })
+    (nothing_but c.dead)
+
+-- one of their rows passes the test
+abbrev pub some_row : (Row → Bool) → Conditions → Bool
+some_row p c = list_any p c.equations || (list_any p c.inequalities || list_any (some_atom p) c.pending)
 
 -- ---- states
 -- the columns in order, and the number of the next one

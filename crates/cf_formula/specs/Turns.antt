@@ -1,6 +1,6 @@
 -- Unknowns that give way to rows, and to sums of as many new unknowns.
-use Rattle.std.specs.Prelude.{ℕ, zero, suc, ◌+◌, ℤ, pos, ◌+ℤ◌, ◌*ℤ◌, List, [], ◌∷◌, map}
-use Rattle.cf_linear.specs.Rows.{Row, put, subst_row}
+use Rattle.std.specs.Prelude.{ℕ, zero, suc, ◌+◌, ℤ, pos, ◌+ℤ◌, ◌*ℤ◌, List, [], ◌∷◌, map, Bool, false, ◌||◌}
+use Rattle.cf_linear.specs.Rows.{Row, put, subst_row, subst_passes}
 use Rattle.cf_linear.specs.Systems.{How, row_how}
 
 -- ---- matrices as lists of rows; what is missing counts as 0
@@ -35,6 +35,11 @@ identity (suc m) = (pos 1 ∷ zero_row m) ∷ map (λ r. pos 0 ∷ r) (identity 
 abbrev pub subst_rows : List (ℕ × Row) → Row → Row
 subst_rows [] r = r
 subst_rows ((x, s) ∷ ps) r = subst_row x s (subst_rows ps r)
+
+-- whether that, the last one first, makes a product or a sum past the limit
+abbrev pub rows_pass : List (ℕ × Row) → Row → Bool
+rows_pass [] r = false
+rows_pass ((x, s) ∷ ps) r = rows_pass ps r || subst_passes x s (subst_rows ps r)
 
 abbrev pub backs : List (ℕ × Row) → List (ℕ × How)
 backs [] = []
