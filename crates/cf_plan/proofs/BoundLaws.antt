@@ -46,7 +46,7 @@ use Rattle.cf_plan.specs.Cleaning.{with_fact, with_facts}
 use Rattle.cf_plan.specs.Holding.{atom_rows, holds_column, is_in_equation, is_in_formula}
 use Rattle.cf_plan.specs.Laws.{IsColumn, IsRowOver}
 use Rattle.cf_plan.specs.Made.{IsMadeFrom}
-use Rattle.cf_plan.specs.Plans.{act_drop, act_search}
+use Rattle.cf_script.specs.Plans.{act_drop, act_search}
 use Rattle.cf_plan.specs.Ready.{IsReady, IsLawfulAt}
 use Rattle.cf_plan.specs.Stepping.{has_inexact, system_of, columns_of, bound_rows, searched_next, dropped_count, dropped_next, stepped}
 use Rattle.cf_plan.proofs.ConditionLaws.{row_kind, add_all-over, ge_all-through}

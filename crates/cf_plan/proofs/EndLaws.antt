@@ -25,7 +25,7 @@ use Rattle.cf_plan.specs.declared.why.Why.{Why}
 use Rattle.cf_plan.specs.declared.why.Why.TheVariants.{Left, Consistent, Branches, Column, Refused}
 use Rattle.cf_plan.specs.Following.{Ended, leaf, branches, is_over, without_formula, member_states, if_counted, all_counted, or_of, ended, below_row, split_states, split_of}
 use Rattle.cf_plan.specs.Laws.{IsColumn, IsRowOver, AreOver, IsEnd}
-use Rattle.cf_plan.specs.Plans.{EndTree, end_over, end_close, end_or, end_split}
+use Rattle.cf_script.specs.Plans.{EndTree, end_over, end_close, end_cover, end_or, end_tight, end_split}
 use Rattle.cf_plan.specs.Ready.{IsReady}
 use Rattle.cf_plan.specs.Stepping.{Stepped, counted}
 use Rattle.cf_plan.proofs.ConditionLaws.{one_and_rest, row_kind, add-over}
@@ -87,7 +87,9 @@ leaf_over end_close n s e =
     ⊎_elim (λ p. ⊎_elim (λ q. let r = q.1 in cc r) (λ q. let r = q.1 in cc r) (if_so (n == 0) (Ok (branches [])) (Err Branches) (Ok leaf) p.1))
     (λ p. let q = p.1 in cc q)
     (if_so (s.conditions.dead || is_refuted s.facts s.conditions) (cond (n == 0) (Ok (branches [])) (Err Branches)) (Err Consistent) (Ok leaf) e)
+leaf_over (end_cover j needs) n s e = cc e
 leaf_over (end_or i) n s e = absurd (or_no_leaf i (slice_get s.conditions.pending i) s n e)
+leaf_over (end_tight x lower) n s e = cc e
 leaf_over (end_split r) n s e = absurd (split_no_leaf r s n e)
 
 -- ---- `or`
@@ -257,5 +259,7 @@ branches_parted Given end_close n s ss w r e =
     ⊎_elim (λ q. let k = q.1 in let l : [] ≡ ss = cc k in subst (IsParted Given s) l (close_parted Given s r p.0)) (λ q. let k = q.1 in cc k)
     (if_so (n == 0) (Ok (branches [])) (Err Branches) (Ok (branches ss)) p.1)) (λ p. let q = p.1 in cc q)
     (if_so (s.conditions.dead || is_refuted s.facts s.conditions) (cond (n == 0) (Ok (branches [])) (Err Branches)) (Err Consistent) (Ok (branches ss)) e)
+branches_parted Given (end_cover j needs) n s ss w r e = cc e
 branches_parted Given (end_or i) n s ss w r e = or_so Given s i (slice_get s.conditions.pending i) n ss r refl e
+branches_parted Given (end_tight x lower) n s ss w r e = cc e
 branches_parted Given (end_split row) n s ss w r e = split_so Given s row n ss r w e

@@ -4,7 +4,7 @@ use Rattle.cf_linear.specs.declared.refusal.Refusal.TheVariants.{Past}
 use Rattle.cf_linear.specs.Rows.{Row}
 use Rattle.cf_formula.specs.States.{State, bare}
 use Rattle.cf_plan.specs.declared.why.Why.TheVariants.{Row as NoRow, Multiplier, Implied, Refused}
-use Rattle.cf_plan.specs.Plans.{of_facts, of_equations, of_inequalities, act_forget}
+use Rattle.cf_script.specs.Plans.{of_facts, of_equations, of_inequalities, of_extras, act_forget}
 use Rattle.cf_plan.specs.Stepping.{stepped}
 
 abbrev state : List Row → State
@@ -66,6 +66,9 @@ no_such_row = refl
 
 no_such_part : stepped (act_forget 0 (pos 1) ((of_equations 1, pos 1) ∷ [])) (state (less (negsuc 0) ∷ [])) ≡ Err NoRow
 no_such_part = refl
+
+no_extra : stepped (act_forget 0 (pos 1) ((of_extras 0, pos 1) ∷ [])) (state (less (negsuc 0) ∷ [])) ≡ Err NoRow
+no_extra = refl
 
 row_past : stepped (act_forget 0 (pos (2 ^ 127)) []) (state (less (negsuc 0) ∷ [])) ≡ Err (Refused Past)
 row_past = refl

@@ -19,7 +19,7 @@ use Rattle.cf_formula.proofs.SumLaws.{part_nonneg, part_zero, sum_nonneg, follow
 use Rattle.cf_plan.specs.declared.why.Why.{Why}
 use Rattle.cf_plan.specs.declared.why.Why.TheVariants.{Multiplier, Implied, Refused}
 use Rattle.cf_plan.specs.Laws.{IsColumn, IsRowOver}
-use Rattle.cf_plan.specs.Plans.{Source, of_facts, of_equations, of_inequalities, act_forget}
+use Rattle.cf_script.specs.Plans.{Source, of_facts, of_equations, of_inequalities, of_extras, act_forget}
 use Rattle.cf_plan.specs.Ready.{IsReady, IsLawfulAt}
 use Rattle.cf_plan.specs.Stepping.{Stepped, without_inequality, forgotten, forget_at, stepped}
 use Rattle.cf_plan.specs.Summing.{row_at, may_take, part_of, and_then, parts_of, parts_pass, difference, follows}
@@ -67,6 +67,7 @@ module _ (v : Values) (s : State) (i : ℕ) (facts : EachRow (IsNonneg v) s.fact
   source_nonneg (of_inequalities j) k r e t =
       let a = another (j == i) (slice_get s.conditions.inequalities j) r e in
       part_nonneg v r k (other_in (IsNonneg v) s.conditions.inequalities i j r (eqb-false j i a.0) a.1 others) (not_lt_so k (pos 0) t)
+  source_nonneg (of_extras j) k r e t = cc e
 
   parts_nonneg : (sum : List (Source × ℤ)) (parts : List (Row × ℤ)) → parts_of i s sum ≡ Ok parts → EachPart (λ r k. pos 0 ≤ℤ (k *ℤ value v r)) parts
   parts_nonneg [] parts e = let q : [] ≡ parts = cc e in subst (EachPart (λ r k. pos 0 ≤ℤ (k *ℤ value v r))) q tt

@@ -36,7 +36,7 @@ use Rattle.cf_formula.proofs.TurnLaws.{value-subst_rows}
 use Rattle.cf_plan.specs.declared.why.Why.TheVariants.{Refused}
 use Rattle.cf_plan.specs.Laws.{IsColumn, IsRowOver, AreOver}
 use Rattle.cf_plan.specs.Made.{IsMadeFrom}
-use Rattle.cf_plan.specs.Plans.{act_last}
+use Rattle.cf_script.specs.Plans.{act_last}
 use Rattle.cf_plan.specs.Ready.{IsReady, IsLawfulAt}
 use Rattle.cf_plan.specs.Stepping.{gone_passes, without_equation, without_column, unit_next, divided_next, last_next, last_of, last_at, stepped}
 use Rattle.cf_plan.proofs.BoundLaws.{with_facts-hold}

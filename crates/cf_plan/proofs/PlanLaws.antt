@@ -10,7 +10,7 @@ use Rattle.cf_plan.specs.declared.why.Why.TheVariants.{Refused}
 use Rattle.cf_plan.specs.Cleaning.{needed_next, rounded_next, least_next, rows_cleaned, formulas_next, cleaned}
 use Rattle.cf_plan.specs.Following.{no_progress}
 use Rattle.cf_plan.specs.Laws.{IsColumn, AreColumns, AreOver, first_state, IsAct, EachNext, SomeNext, IsReached, LeadsBack, EveryPlanSolves}
-use Rattle.cf_plan.specs.Plans.{ActTree, act_simplify, act_clean, act_drop, act_last, act_search, act_turn, act_shift, act_residue, act_forget}
+use Rattle.cf_script.specs.Plans.{ActTree, act_simplify, act_clean, act_tidy, act_drop, act_last, act_search, act_turn, act_shift, act_residue, act_combine, act_forget}
 use Rattle.cf_plan.specs.Ready.{IsReady, IsLawfulAt}
 use Rattle.cf_plan.specs.Stepping.{stepped, clean_passes, counted}
 use Rattle.cf_plan.proofs.BoundLaws.{search_lawful, drop_lawful}
@@ -21,7 +21,7 @@ use Rattle.cf_plan.proofs.ReadyLaws.{not_rejected, counted_so}
 use Rattle.cf_plan.proofs.ResidueLaws.{residue_lawful}
 use Rattle.cf_plan.proofs.RoundLaws.{rounded_lawful, least_lawful}
 use Rattle.cf_plan.proofs.StepLaws.{simplify_lawful, shift_lawful}
-use Rattle.cf_plan.proofs.TreeLaws.{then_lawful, plan_leads}
+use Rattle.cf_plan.proofs.TreeLaws.{then_lawful, tree_leads}
 use Rattle.cf_plan.proofs.TurnStep.{turn_lawful}
 
 -- nothing is given before the first state
@@ -55,12 +55,14 @@ clean_lawful Given s n r e =
 pub act_lawful : (Given : Values → Type 0) (act : ActTree) (s : State) (n : Next) → IsAct act → IsReady Given s → stepped act s ≡ Ok n → IsLawfulAt Given s n
 act_lawful Given act_simplify s n w r e = simplify_lawful Given s n r e
 act_lawful Given act_clean s n w r e = clean_lawful Given s n r e
+act_lawful Given act_tidy s n w r e = cc e
 act_lawful Given (act_drop x) s n w r e = drop_lawful Given x s n r e
 act_lawful Given (act_last i) s n w r e = last_lawful Given i s n r e
 act_lawful Given (act_search x lower) s n w r e = search_lawful Given x lower s n r e
 act_lawful Given (act_turn xs ms ns) s n w r e = turn_lawful Given xs ms ns s n r e
 act_lawful Given (act_shift x row) s n w r e = shift_lawful Given x row s n w r e
 act_lawful Given (act_residue x k) s n w r e = residue_lawful Given x k s n r e
+act_lawful Given (act_combine sum) s n w r e = cc e
 act_lawful Given (act_forget i k sum) s n w r e = forget_lawful Given i k sum s n r e
 
 -- ---- the plan
@@ -90,7 +92,7 @@ first_ready k c a o = record {
 
 pub every_plan_solves : EveryPlanSolves
 every_plan_solves t k c r w a o e =
-    let l = plan_leads act_lawful Nothing t no_progress (first_state k c) r w (first_ready k c a o) e in
+    let l = tree_leads act_lawful Nothing t no_progress (first_state k c) r w (first_ready k c a o) e in
     record {
       reached = λ v one m. some_reached k.known v r.0 (l.leads.forth v one tt ((whole-holds v c).1 m));
       back = each_back k c r.0 l.leads.back l.over;

@@ -46,7 +46,7 @@ use Rattle.cf_plan.specs.Laws.{AreColumns, EachNext, SomeNext, IsReached}
 use Rattle.cf_plan.specs.Leaves.{leaf_arm, leaf_passes}
 use Rattle.cf_plan.specs.Made.{IsMadeFrom}
 use Rattle.cf_plan.specs.Planned.{any_code, no_arm, arms_or_none, layout, start, leaf_arms, solved_by, planned, PlannedMeans, PlannedIsShallow, MetWithin}
-use Rattle.cf_plan.specs.Plans.{PlanTree}
+use Rattle.cf_script.specs.Plans.{NodeTree}
 use Rattle.cf_plan.specs.Ready.{IsReady}
 use Rattle.cf_plan.proofs.GrowthScales.{growth_holds}
 use Rattle.cf_plan.proofs.LeafArms.{IsLeafArm, leaf_arm_of}
@@ -54,7 +54,7 @@ use Rattle.cf_plan.proofs.LeafEnds.{given_more}
 use Rattle.cf_plan.proofs.MeasuredLaws.{leaves_fit}
 use Rattle.cf_plan.proofs.PlanLaws.{Nothing, first_ready, act_lawful}
 use Rattle.cf_plan.proofs.StartLaws.{first-columns, first-over, LeadsTo, Solves as PlanSolves, plan-solves}
-use Rattle.cf_plan.proofs.TreeLaws.{plan_leads, on_ok_so}
+use Rattle.cf_plan.proofs.TreeLaws.{tree_leads, on_ok_so}
 
 -- ---- an arm that is never taken
 any_given : (bases bs : List Base) → AreOutputs bs → AreGiven bases bs (map any_code bs)
@@ -193,13 +193,13 @@ solved_so q ns c e =
     (λ i. (t, ltb-false MOST_DEPTH (arms_depth (leaf_arms q ns)) i, same_code (code_solve q.number (leaf_arms q ns)) c (rw (t, i) at e))))
 
 -- what is known of a plan that is taken
-pub record IsTaken (q : ChooseTree) (t : PlanTree) (c : CodeTree) : Type 0 where
+pub record IsTaken (q : ChooseTree) (t : NodeTree) (c : CodeTree) : Type 0 where
   few : set_count (layout q) ≤ MOST_SETS
   leaves : List Next × Progress
   followed : follow t no_progress (start q) ≡ Ok leaves
   solved : solved_by q leaves.0 ≡ Ok c
 
-taken : (q : ChooseTree) (t : PlanTree) (c : CodeTree) → planned q t ≡ Ok c → IsTaken q t c
+taken : (q : ChooseTree) (t : NodeTree) (c : CodeTree) → planned q t ≡ Ok c → IsTaken q t c
 unfolding planned
 taken q t c e =
     on_bool (nat_lt MOST_SETS (set_count (layout q)))
@@ -217,7 +217,7 @@ planned_means q t c is w e env have =
     let placed = placed-rel q.scope q.outputs rel is.typed is.linear in
     let ns = h.leaves.0 in
     let p = plan-solves (q.scope ++ q.outputs) l rel is.typed placed t h.leaves w h.followed in
-    let a = plan_leads act_lawful Nothing t no_progress (start q) h.leaves w
+    let a = tree_leads act_lawful Nothing t no_progress (start q) h.leaves w
     (first_ready (first_columns l rel) (simplified [] (first_conditions l rel)) (first-columns l rel placed) (first-over l rel placed)) h.followed in
     let s = solved_so q ns c h.solved in
     let r = each_arm q.scope q.outputs rel outs is.typed is.linear h.few placed ns a.made (columns_of Nothing ns a.ready) a.leads.formed s.0 p in

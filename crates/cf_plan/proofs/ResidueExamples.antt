@@ -6,7 +6,7 @@ use Rattle.cf_linear.specs.declared.refusal.Refusal.TheVariants.{Past, Limit}
 use Rattle.cf_linear.specs.Systems.{row_how}
 use Rattle.cf_formula.specs.States.{State}
 use Rattle.cf_plan.specs.declared.why.Why.TheVariants.{Unknown, Bound, Refused}
-use Rattle.cf_plan.specs.Plans.{act_residue}
+use Rattle.cf_script.specs.Plans.{act_residue}
 use Rattle.cf_plan.specs.Stepping.{stepped}
 
 -- x - a >= 0

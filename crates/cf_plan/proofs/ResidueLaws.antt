@@ -21,7 +21,7 @@ use Rattle.cf_formula.proofs.SubstitutionLaws.{residue_leads}
 use Rattle.cf_plan.specs.declared.why.Why.TheVariants.{Unknown, Bound, Refused}
 use Rattle.cf_plan.specs.Laws.{IsColumn, AreColumns, IsRowOver}
 use Rattle.cf_plan.specs.Made.{IsMadeFrom}
-use Rattle.cf_plan.specs.Plans.{act_residue}
+use Rattle.cf_script.specs.Plans.{act_residue}
 use Rattle.cf_plan.specs.Ready.{IsReady, IsLawfulAt}
 use Rattle.cf_plan.specs.Stepping.{gone_passes, bound_rows, residue_row, residue_columns, residue_next, stepped}
 use Rattle.cf_plan.proofs.BoundLaws.{with_facts-hold, bounds_hold}

@@ -6,7 +6,7 @@ use Rattle.cf_linear.specs.Rows.{Row}
 use Rattle.cf_formula.specs.States.{State}
 use Rattle.cf_plan.specs.declared.why.Why.TheVariants.{Column, Branches, Refused}
 use Rattle.cf_plan.specs.Following.{branches, ended}
-use Rattle.cf_plan.specs.Plans.{end_split}
+use Rattle.cf_script.specs.Plans.{end_split}
 
 -- the rows are at least 0
 abbrev state : List Row → State

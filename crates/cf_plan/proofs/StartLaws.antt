@@ -24,8 +24,8 @@ use Rattle.cf_formula.proofs.FirstLaws.{relation-agrees, written_are, written-ri
 use Rattle.cf_formula.proofs.FormulaLemmas.{Throughout-weaker}
 use Rattle.cf_formula.proofs.SimplifyLaws.{simplified-holds}
 use Rattle.cf_plan.specs.Following.{Progress, follow, no_progress}
-use Rattle.cf_plan.specs.Laws.{IsColumn, AreColumns, IsRowOver, AreOver, first_state, IsPlan, EachNext, SomeNext, IsReached, LeadsBack}
-use Rattle.cf_plan.specs.Plans.{PlanTree}
+use Rattle.cf_plan.specs.Laws.{IsColumn, AreColumns, IsRowOver, AreOver, first_state, IsNode, EachNext, SomeNext, IsReached, LeadsBack}
+use Rattle.cf_script.specs.Plans.{NodeTree}
 use Rattle.cf_plan.proofs.ConditionLaws.{add-over, simplified-over}
 use Rattle.cf_plan.proofs.PlanLaws.{every_plan_solves}
 
@@ -96,8 +96,8 @@ some-next : (P Q : Next → Type 0) → ((n : Next) → P n → Q n) → (ns : L
 some-next P Q f [] h = h
 some-next P Q f (n ∷ ns) h = ⊎_elim (λ a. inl (f n a)) (λ a. inr (some-next P Q f ns a)) h
 
-pub plan-solves : (scope : List Base) (l : Layout) (rel : RelTree) → IsTyped scope rel → IsPlacedRel l rel → (t : PlanTree) (r : List Next × Progress) →
-    IsPlan t →
+pub plan-solves : (scope : List Base) (l : Layout) (rel : RelTree) → IsTyped scope rel → IsPlacedRel l rel → (t : NodeTree) (r : List Next × Progress) →
+    IsNode t →
     follow t no_progress (first_state (first_columns l rel) (simplified [] (first_conditions l rel))) ≡ Ok r → Solves scope l rel r.0
 plan-solves scope l rel ty p t r w e =
     let k = first_columns l rel in

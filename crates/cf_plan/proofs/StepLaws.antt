@@ -25,7 +25,7 @@ use Rattle.cf_formula.proofs.TurnLaws.{value-subst_rows}
 use Rattle.cf_plan.specs.declared.why.Why.TheVariants.{Unknown, Known, Refused}
 use Rattle.cf_plan.specs.Laws.{IsColumn, AreColumns, IsRowOver}
 use Rattle.cf_plan.specs.Made.{IsMadeFrom}
-use Rattle.cf_plan.specs.Plans.{act_simplify, act_shift}
+use Rattle.cf_script.specs.Plans.{act_simplify, act_shift}
 use Rattle.cf_plan.specs.Ready.{IsReady, IsLawfulAt}
 use Rattle.cf_plan.specs.Stepping.{gone_next, gone_passes, shift_row, shifted_columns, stepped, simplified_next}
 use Rattle.cf_plan.proofs.ConditionLaws.{simplified-over, changed-over}

@@ -16,10 +16,10 @@ use Rattle.cf_formula.proofs.StateLaws.{whole-holds}
 use Rattle.cf_plan.specs.declared.limits.TheConstants.{MOST_LEAVES, MOST_STEPS}
 use Rattle.cf_plan.specs.declared.why.Why.{Why}
 use Rattle.cf_plan.specs.declared.why.Why.TheVariants.{Leaves, Steps}
-use Rattle.cf_plan.specs.Following.{Fault, Progress, on_ok, placed, after_first, steps_of, Ended, leaf, branches, is_over, ended, plan_count, Followed, then_leaves, before_leaves, begun, leaf_at, at_end, follow, follow_all}
-use Rattle.cf_plan.specs.Laws.{IsAct, EachAct, IsPlan, ArePlans, EachNext, IsEnd}
+use Rattle.cf_plan.specs.Following.{Fault, Progress, on_ok, placed, after_first, steps_of, Ended, leaf, branches, is_over, ended, node_count, Followed, then_leaves, before_leaves, begun, leaf_at, at_end, follow, follow_all}
+use Rattle.cf_plan.specs.Laws.{IsAct, EachAct, IsNode, AreNodes, EachNext, IsEnd}
 use Rattle.cf_plan.specs.Made.{IsMadeFrom}
-use Rattle.cf_plan.specs.Plans.{ActTree, EndTree, PlanTree, plan_node, PlanTrees, no_plans, plan_more}
+use Rattle.cf_script.specs.Plans.{ActTree, EndTree, NodeTree, node_of, NodeTrees, no_nodes, node_more}
 use Rattle.cf_plan.specs.Ready.{IsReady, IsLawfulAt, AreLeaves}
 use Rattle.cf_plan.specs.Stepping.{stepped}
 use Rattle.cf_plan.proofs.ReadyLaws.{ready_same, bare_given, then_given}
@@ -248,21 +248,21 @@ module _ (lawful : (Given : Values → Type 0) (act : ActTree) (s : State) (n : 
       let h = branches_parted Given end n s ss w r g in
       parted_leaves Given s ss q.0 r h (again ss h.ready e)
 
-  node_leads : (Given : Values → Type 0) (acts : List ActTree) (end : EndTree) (arms : PlanTrees) (p : Progress) (s : State) (q : List Next × Progress) →
+  node_leads : (Given : Values → Type 0) (acts : List ActTree) (end : EndTree) (arms : NodeTrees) (p : Progress) (s : State) (q : List Next × Progress) →
       EachAct acts → IsEnd end → IsReady Given s →
       ((n : Next) (ss : List State) (u : List Next × Progress) → EachState (IsReady (GivenIn Given (branch_of n))) ss →
       follow_all arms (begun p acts) ss ≡ Ok u →
       AllLeaves (GivenIn Given (branch_of n)) ss u.0) →
-      on_ok (λ n. then_leaves n (at_end (λ ss. follow_all arms (begun p acts) ss) (begun p acts) n.state (ended end (plan_count arms) n.state)))
+      on_ok (λ n. then_leaves n (at_end (λ ss. follow_all arms (begun p acts) ss) (begun p acts) n.state (ended end (node_count arms) n.state)))
       (steps_of (begun p acts).nodes 1 acts s) ≡ Ok q → AreLeaves Given s q.0
   node_leads Given acts end arms p s q w x r again e =
       let b = begun p acts in
-      let rest = λ (n : Next). at_end (λ ss. follow_all arms b ss) b n.state (ended end (plan_count arms) n.state) in
+      let rest = λ (n : Next). at_end (λ ss. follow_all arms b ss) b n.state (ended end (node_count arms) n.state) in
       let a = on_ok_so (λ n. then_leaves n (rest n)) (steps_of b.nodes 1 acts s) q e in
       let n = a.0 in
       let h = steps_lawful Given b.nodes 1 acts s n w r a.1 in
       let u = on_ok_so (λ (x : List Next × Progress). Ok (map (then_next n) x.0, x.1)) (rest n) q a.2 in
-      let l = end_leads (GivenIn Given (branch_of n)) end (plan_count arms) (λ ss. follow_all arms b ss) b n.state (ended end (plan_count arms) n.state) u.0 x
+      let l = end_leads (GivenIn Given (branch_of n)) end (node_count arms) (λ ss. follow_all arms b ss) b n.state (ended end (node_count arms) n.state) u.0 x
       h.ready
       (λ ss. again n ss u.0) refl u.1 in
       subst (AreLeaves Given s) (ap (λ (x : List Next × Progress). x.0) (same_ok (map (then_next n) u.0.0, u.0.1) q u.2))
@@ -270,27 +270,27 @@ module _ (lawful : (Given : Values → Type 0) (act : ActTree) (s : State) (n : 
 
   mutual
     -- the law
-    pub plan_leads : (Given : Values → Type 0) (t : PlanTree) (p : Progress) (s : State) (q : List Next × Progress) → IsPlan t → IsReady Given s →
+    pub tree_leads : (Given : Values → Type 0) (t : NodeTree) (p : Progress) (s : State) (q : List Next × Progress) → IsNode t → IsReady Given s →
         follow t p s ≡ Ok q →
         AreLeaves Given s q.0
-    plan_leads Given (plan_node acts end arms) p s q w r e =
+    tree_leads Given (node_of acts end arms) p s q w r e =
         on_bool (nat_lt MOST_STEPS (begun p acts).steps)
         (λ i. let j : Err ((begun p acts).nodes, 0, Steps) ≡ Ok q = rw i at e in cc)
         (λ i. node_leads Given acts end arms p s q w.0 w.1 r
         (λ n ss u. all_lead (GivenIn Given (branch_of n)) arms (begun p acts) ss u w.2) (rw i at e))
 
-    all_lead : (Given : Values → Type 0) (ts : PlanTrees) (p : Progress) (ss : List State) (q : List Next × Progress) → ArePlans ts →
+    all_lead : (Given : Values → Type 0) (ts : NodeTrees) (p : Progress) (ss : List State) (q : List Next × Progress) → AreNodes ts →
         EachState (IsReady Given) ss →
         follow_all ts p ss ≡ Ok q → AllLeaves Given ss q.0
-    all_lead Given no_plans p [] q w r e = ap (λ (x : List Next × Progress). x.0) (sym (same_ok ([], p) q e))
-    all_lead Given no_plans p (s ∷ ss) q w r e = cc e
-    all_lead Given (plan_more t ts) p [] q w r e = cc e
-    all_lead Given (plan_more t ts) p (s ∷ ss) q w r e =
+    all_lead Given no_nodes p [] q w r e = ap (λ (x : List Next × Progress). x.0) (sym (same_ok ([], p) q e))
+    all_lead Given no_nodes p (s ∷ ss) q w r e = cc e
+    all_lead Given (node_more t ts) p [] q w r e = cc e
+    all_lead Given (node_more t ts) p (s ∷ ss) q w r e =
         let a = on_ok_so (λ x. before_leaves x.0 (follow_all ts x.1 ss)) (follow t p s) q e in
         let b = on_ok_so (λ (x : List Next × Progress). Ok (a.0.0 ++ x.0, x.1)) (follow_all ts a.0.1 ss) q a.2 in (
           a.0.0,
           b.0.0,
           ap (λ (x : List Next × Progress). x.0) (sym (same_ok (a.0.0 ++ b.0.0, b.0.1) q b.2)),
-          plan_leads Given t p s a.0 w.0 r.0 a.1,
+          tree_leads Given t p s a.0 w.0 r.0 a.1,
           all_lead Given ts a.0.1 ss b.0 w.1 r.1 b.1,
         )

@@ -23,7 +23,7 @@ use Rattle.cf_formula.proofs.TurnLaws.{backs-other, pairs_apart, turn_leads}
 use Rattle.cf_plan.specs.declared.why.Why.TheVariants.{Unknown, Inverse, Refused}
 use Rattle.cf_plan.specs.Laws.{IsColumn, AreColumns, IsRowOver}
 use Rattle.cf_plan.specs.Made.{BackNew, IsMadeFrom}
-use Rattle.cf_plan.specs.Plans.{act_turn}
+use Rattle.cf_script.specs.Plans.{act_turn}
 use Rattle.cf_plan.specs.Ready.{IsReady, IsLawfulAt}
 use Rattle.cf_plan.specs.Stepping.{gone_next, gone_passes, are_distinct, are_unknowns, same_numbers, same_matrix, is_square, are_inverse, renamed, turned_columns, stepped}
 use Rattle.cf_plan.proofs.ConditionLaws.{changed-over}

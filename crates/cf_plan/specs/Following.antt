@@ -11,8 +11,8 @@ use Rattle.cf_formula.specs.Simplifying.{is_refuted}
 use Rattle.cf_formula.specs.States.{Conditions, add, State, Next, bare, then_next, with_conditions}
 use Rattle.cf_plan.specs.declared.limits.TheConstants.{MOST_LEAVES, MOST_STEPS}
 use Rattle.cf_plan.specs.declared.why.Why.{Why}
-use Rattle.cf_plan.specs.declared.why.Why.TheVariants.{Left, Consistent, Formula as NoFormula, Branches, Leaves, Steps, Column, Refused}
-use Rattle.cf_plan.specs.Plans.{ActTree, EndTree, end_over, end_close, end_or, end_split, PlanTree, plan_node, PlanTrees, no_plans, plan_more}
+use Rattle.cf_plan.specs.declared.why.Why.TheVariants.{Left, Consistent, Formula as NoFormula, Branches, Leaves, Steps, Column, Refused, Untaken}
+use Rattle.cf_script.specs.Plans.{ActTree, EndTree, end_over, end_close, end_cover, end_or, end_tight, end_split, NodeTree, node_of, NodeTrees, no_nodes, node_more}
 use Rattle.cf_plan.specs.Stepping.{Stepped, stepped, counted}
 
 -- the number of a node in the order of the file, that of a step in it (0 for its end), and why
@@ -99,13 +99,15 @@ abbrev pub ended : EndTree → ℕ → State → Result Ended Why
 ended end_over n s = (if is_over s.conditions then (if n == 0 then Ok leaf else Err Branches) else Err Left)
 ended end_close n s =
     (if s.conditions.dead || is_refuted s.facts s.conditions then (if n == 0 then Ok (branches []) else Err Branches) else Err Consistent)
+ended (end_cover j needs) n s = Err Untaken
 ended (end_or i) n s = or_of i (slice_get s.conditions.pending i) s n
+ended (end_tight x lower) n s = Err Untaken
 ended (end_split r) n s = split_of r s n
 
 -- ---- the tree
-abbrev pub plan_count : PlanTrees → ℕ
-plan_count no_plans = 0
-plan_count (plan_more t ts) = suc (plan_count ts)
+abbrev pub node_count : NodeTrees → ℕ
+node_count no_nodes = 0
+node_count (node_more t ts) = suc (node_count ts)
 
 abbrev pub Followed : Type 0
 Followed = Result (List Next × Progress) Fault
@@ -132,17 +134,17 @@ at_end k p s (Ok leaf) = leaf_at p s
 at_end k p s (Ok (branches ss)) = k ss
 
 abbrev mutual
-  pub follow : PlanTree → Progress → State → Followed
-  follow (plan_node acts end arms) p s =
+  pub follow : NodeTree → Progress → State → Followed
+  follow (node_of acts end arms) p s =
       (if nat_lt MOST_STEPS (begun p acts).steps then Err ((begun p acts).nodes, 0, Steps)
-      else on_ok (λ n. then_leaves n (at_end (λ ss. follow_all arms (begun p acts) ss) (begun p acts) n.state (ended end (plan_count arms) n.state)))
+      else on_ok (λ n. then_leaves n (at_end (λ ss. follow_all arms (begun p acts) ss) (begun p acts) n.state (ended end (node_count arms) n.state)))
       (steps_of (begun p acts).nodes 1 acts s))
 
-  pub follow_all : PlanTrees → Progress → List State → Followed
-  follow_all no_plans p [] = Ok ([], p)
-  follow_all no_plans p (s ∷ ss) = Err (p.nodes, 0, Branches)
-  follow_all (plan_more t ts) p [] = Err (p.nodes, 0, Branches)
-  follow_all (plan_more t ts) p (s ∷ ss) = on_ok (λ r. before_leaves r.0 (follow_all ts r.1 ss)) (follow t p s)
+  pub follow_all : NodeTrees → Progress → List State → Followed
+  follow_all no_nodes p [] = Ok ([], p)
+  follow_all no_nodes p (s ∷ ss) = Err (p.nodes, 0, Branches)
+  follow_all (node_more t ts) p [] = Err (p.nodes, 0, Branches)
+  follow_all (node_more t ts) p (s ∷ ss) = on_ok (λ r. before_leaves r.0 (follow_all ts r.1 ss)) (follow t p s)
 
 abbrev pub no_progress : Progress
 no_progress = record { nodes = 0; steps = 0; leaves = 0 }

@@ -8,7 +8,7 @@ use Rattle.cf_formula.specs.Formulas.{EachAtom, EachFormula}
 use Rattle.cf_formula.specs.Items.{AllMet}
 use Rattle.cf_formula.specs.States.{Conditions, Model, Columns, State, Next}
 use Rattle.cf_plan.specs.Following.{Progress, follow, no_progress}
-use Rattle.cf_plan.specs.Plans.{ActTree, act_simplify, act_clean, act_drop, act_last, act_search, act_turn, act_shift, act_residue, act_forget, EndTree, end_over, end_close, end_or, end_split, PlanTree, plan_node, PlanTrees, no_plans, plan_more}
+use Rattle.cf_script.specs.Plans.{ActTree, act_simplify, act_clean, act_tidy, act_drop, act_last, act_search, act_turn, act_shift, act_residue, act_combine, act_forget, EndTree, end_over, end_close, end_cover, end_or, end_tight, end_split, NodeTree, node_of, NodeTrees, no_nodes, node_more}
 
 -- ---- the first state
 -- a known or an unknown column
@@ -41,12 +41,14 @@ first_state k c = record { columns = k; facts = []; shared = []; conditions = c;
 abbrev pub IsAct : ActTree → Type 0
 IsAct act_simplify = Unit {0}
 IsAct act_clean = Unit {0}
+IsAct act_tidy = Unit {0}
 IsAct (act_drop x) = Unit {0}
 IsAct (act_last i) = Unit {0}
 IsAct (act_search x lower) = Unit {0}
 IsAct (act_turn xs ms ns) = Unit {0}
 IsAct (act_shift x row) = Rises 0 row
 IsAct (act_residue x k) = Unit {0}
+IsAct (act_combine sum) = Unit {0}
 IsAct (act_forget i n sum) = Unit {0}
 
 abbrev pub EachAct : List ActTree → Type 0
@@ -56,16 +58,18 @@ EachAct (act ∷ acts) = IsAct act × EachAct acts
 abbrev pub IsEnd : EndTree → Type 0
 IsEnd end_over = Unit {0}
 IsEnd end_close = Unit {0}
+IsEnd (end_cover j needs) = Unit {0}
 IsEnd (end_or i) = Unit {0}
+IsEnd (end_tight x lower) = Unit {0}
 IsEnd (end_split row) = Rises 0 row
 
 abbrev mutual
-  pub IsPlan : PlanTree → Type 0
-  IsPlan (plan_node acts end arms) = EachAct acts × IsEnd end × ArePlans arms
+  pub IsNode : NodeTree → Type 0
+  IsNode (node_of acts end arms) = EachAct acts × IsEnd end × AreNodes arms
 
-  pub ArePlans : PlanTrees → Type 0
-  ArePlans no_plans = Unit {0}
-  ArePlans (plan_more t ts) = IsPlan t × ArePlans ts
+  pub AreNodes : NodeTrees → Type 0
+  AreNodes no_nodes = Unit {0}
+  AreNodes (node_more t ts) = IsNode t × AreNodes ts
 
 -- ---- leaves
 abbrev pub EachNext : (Next → Type 0) → List Next → Type 0
@@ -92,5 +96,5 @@ pub record AreSolvedBy (k : Columns) (c : Conditions) (leaves : List Next) : Typ
 
 -- a plan that is taken solves the conditions from which it is followed
 abbrev pub EveryPlanSolves : Type 0
-EveryPlanSolves = (t : PlanTree) (k : Columns) (c : Conditions) (r : List Next × Progress) → IsPlan t → AreColumns k → AreOver (IsColumn k) c →
+EveryPlanSolves = (t : NodeTree) (k : Columns) (c : Conditions) (r : List Next × Progress) → IsNode t → AreColumns k → AreOver (IsColumn k) c →
     follow t no_progress (first_state k c) ≡ Ok r → AreSolvedBy k c r.0

@@ -6,7 +6,6 @@ pub mod Laws
 pub mod Leaves
 pub mod Made
 pub mod Planned
-pub mod Plans
 pub mod Ready
 pub mod Stepping
 pub mod Summing

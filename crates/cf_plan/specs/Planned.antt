@@ -22,9 +22,9 @@ use Rattle.cf_plan.specs.declared.limits.TheConstants.{MOST_DEPTH}
 use Rattle.cf_plan.specs.declared.why.Why.TheVariants.{Depth, Refused}
 use Rattle.cf_plan.specs.Following.{Fault, Progress, on_ok, follow, no_progress}
 use Rattle.cf_plan.specs.Growth.{growth_of, greatest_size}
-use Rattle.cf_plan.specs.Laws.{first_state, IsPlan}
+use Rattle.cf_plan.specs.Laws.{first_state, IsNode}
 use Rattle.cf_plan.specs.Leaves.{leaf_arm, leaf_passes}
-use Rattle.cf_plan.specs.Plans.{PlanTree}
+use Rattle.cf_script.specs.Plans.{NodeTree}
 
 -- ---- the arms
 -- something of the base, which is never given
@@ -59,7 +59,7 @@ solved_by q leaves =
     else if nat_lt MOST_DEPTH (arms_depth arms) then Err (0, 0, Depth) else Ok (code_solve q.number arms))
 
 -- the code of the choose, or where the plan is rejected and why
-unfoldable pub planned : ChooseTree → PlanTree → Result CodeTree Fault
+unfoldable pub planned : ChooseTree → NodeTree → Result CodeTree Fault
 planned q t =
     (if nat_lt MOST_SETS (set_count (layout q)) then Err (0, 0, Refused (Limit Sets (set_count (layout q))))
     else on_ok (λ (r : List Next × Progress). solved_by q r.0) (follow t no_progress (start q)))
@@ -73,14 +73,14 @@ pub record IsChoose (q : ChooseTree) : Type 0 where
 
 -- the code of a plan that is taken means a solution, or that there is none exactly where there is none, whoever wrote the plan
 abbrev pub PlannedMeans : Type 0
-PlannedMeans = (q : ChooseTree) (t : PlanTree) (c : CodeTree) → IsChoose q → IsPlan t → planned q t ≡ Ok c →
+PlannedMeans = (q : ChooseTree) (t : NodeTree) (c : CodeTree) → IsChoose q → IsNode t → planned q t ≡ Ok c →
     (env : List Value) → HaveBases q.scope env → Chosen q.number (Sol q.outputs q.relation env) (means c env)
 
 -- and it is not deep
 abbrev pub PlannedIsShallow : Type 0
-PlannedIsShallow = (q : ChooseTree) (t : PlanTree) (c : CodeTree) → planned q t ≡ Ok c → code_depth c ≤ 1 + MOST_DEPTH
+PlannedIsShallow = (q : ChooseTree) (t : NodeTree) (c : CodeTree) → planned q t ≡ Ok c → code_depth c ≤ 1 + MOST_DEPTH
 
 -- and meets no number past its growth times 1 more than the greatest number or set size in scope
 abbrev pub MetWithin : Type 0
-MetWithin = (q : ChooseTree) (t : PlanTree) (c : CodeTree) → planned q t ≡ Ok c → (env : List Value) → HaveBases q.scope env →
+MetWithin = (q : ChooseTree) (t : NodeTree) (c : CodeTree) → planned q t ≡ Ok c → (env : List Value) → HaveBases q.scope env →
     peak c env ≤ growth_of (length q.scope) c * (1 + greatest_size env)

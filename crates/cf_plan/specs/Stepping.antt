@@ -15,10 +15,10 @@ use Rattle.cf_formula.specs.States.{Conditions, add_all, changed, Columns, State
 use Rattle.cf_formula.specs.Sums.{sum_row}
 use Rattle.cf_formula.specs.Turns.{times, identity, subst_rows, backs, turn_pairs}
 use Rattle.cf_plan.specs.declared.why.Why.{Why}
-use Rattle.cf_plan.specs.declared.why.Why.TheVariants.{Unknown, HeldByEquation, HeldByFormula, Exact, Single, Inverse, Known, Bound, Row as NoRow, Multiplier, Implied, Refused}
+use Rattle.cf_plan.specs.declared.why.Why.TheVariants.{Unknown, HeldByEquation, HeldByFormula, Exact, Single, Inverse, Known, Bound, Row as NoRow, Multiplier, Implied, Refused, Untaken}
 use Rattle.cf_plan.specs.Cleaning.{with_facts, cleaned}
 use Rattle.cf_plan.specs.Holding.{is_in_equation, is_in_formula, all_rows}
-use Rattle.cf_plan.specs.Plans.{Source, ActTree, act_simplify, act_clean, act_drop, act_last, act_search, act_turn, act_shift, act_residue, act_forget}
+use Rattle.cf_script.specs.Plans.{Source, ActTree, act_simplify, act_clean, act_tidy, act_drop, act_last, act_search, act_turn, act_shift, act_residue, act_combine, act_forget}
 use Rattle.cf_plan.specs.Summing.{and_then, parts_of, parts_pass, follows}
 
 abbrev pub Stepped : Type 0
@@ -316,10 +316,12 @@ clean_passes n = list_any row_passes (n.state.facts ++ n.state.conditions.inequa
 abbrev pub stepped : ActTree → State → Stepped
 stepped act_simplify s = Ok (simplified_next s)
 stepped act_clean s = rejected_if (clean_passes (cleaned s)) (Refused Past) (counted (cleaned s))
+stepped act_tidy s = Err Untaken
 stepped (act_drop x) s = drop_stepped x s
 stepped (act_last i) s = last_at i (slice_get s.conditions.equations i) s
 stepped (act_search x lower) s = search_stepped x lower s
 stepped (act_turn xs ms ns) s = turned xs ms ns s
 stepped (act_shift x row) s = shifted x row s
 stepped (act_residue x k) s = residue_stepped x k s
+stepped (act_combine sum) s = Err Untaken
 stepped (act_forget i n sum) s = forget_at i n sum (slice_get s.conditions.inequalities i) s

@@ -6,7 +6,7 @@ use Rattle.cf_formula.specs.States.{State}
 use Rattle.cf_formula.specs.Sums.{sum_row}
 use Rattle.cf_plan.specs.declared.why.Why.{Why}
 use Rattle.cf_plan.specs.declared.why.Why.TheVariants.{Row as NoRow, Multiplier}
-use Rattle.cf_plan.specs.Plans.{Source, of_facts, of_equations, of_inequalities}
+use Rattle.cf_script.specs.Plans.{Source, of_facts, of_equations, of_inequalities, of_extras}
 
 -- ---- parts
 -- the row of the state, unless it is inequality i
@@ -14,12 +14,14 @@ abbrev pub row_at : ℕ → State → Source → Option Row
 row_at i s (of_facts j) = slice_get s.facts j
 row_at i s (of_equations j) = slice_get s.conditions.equations j
 row_at i s (of_inequalities j) = (if j == i then None else slice_get s.conditions.inequalities j)
+row_at i s (of_extras j) = None
 
 -- only equations may be taken times a number below 0
 abbrev pub may_take : Source → ℤ → Bool
 may_take (of_facts j) k = not (int_lt k (pos 0))
 may_take (of_equations j) k = true
 may_take (of_inequalities j) k = not (int_lt k (pos 0))
+may_take (of_extras j) k = not (int_lt k (pos 0))
 
 abbrev pub part_of : Source → ℤ → Option Row → Result (Row × ℤ) Why
 part_of p k None = Err NoRow

@@ -36,6 +36,8 @@ pub enum Why {
     Branches,
     /// A row of a `split` holds a column that is neither known nor an unknown.
     Column,
+    /// The step or the end is of a kind that is not taken yet.
+    Untaken,
     /// There are too many arms.
     Leaves,
     /// There are too many steps and ends.
