@@ -72,7 +72,8 @@ fn answers_lines(kind: CommandKind, flags: Flags) -> bool
     match kind {
         CommandKind::Run => !flags.stats,
         CommandKind::Exec => true,
-        CommandKind::Compile | CommandKind::Pre | CommandKind::Check(_) | CommandKind::Prove => false,
+        CommandKind::Compile | CommandKind::Pre | CommandKind::Check(_) | CommandKind::Prove =>
+            false,
     }
 }
 

@@ -5,9 +5,7 @@ ghost use Rattle.cf_words.specs.Commands.{HasSize, plain_command};
 ghost use Rattle.cf_words.specs.Grammar.{MatchesAnswer, checks_found as the_checks_found, clap_command, command_found as the_command_found, flags_found as the_flags_found, form_found as the_form_found, is_set as the_is_set, verify_found as the_verify_found};
 ghost use Rattle.cf_words.specs.Words.{check_for as the_check_for, command_for as the_command_for, command_without_input as the_command_without_input, exec_for as the_exec_for, run_for as the_run_for, strictness_of as the_strictness_of, verify_for as the_verify_for};
 
-use crate::command::{
-    CheckFlags, Command, CommandKind, FileCommand, Flags, ReplyForm, Strictness,
-};
+use crate::command::{CheckFlags, Command, CommandKind, FileCommand, Flags, ReplyForm, Strictness};
 use crate::fault::{WordsFault, fault_of};
 use crate::grammar::grammar;
 use crate::size::size_of;
