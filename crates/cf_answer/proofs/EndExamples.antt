@@ -81,7 +81,7 @@ all-read front e = sym (append-nil front) ∙ sym e
 -- ---- done: the replies, and behind them the tallies
 done : OwesRun two (codes "3\n4\n") → Ends job before (after [] (codes "x3\n4\n# fold 12\n")) (Ok tt)
 unfolding digits
-done owed = (codes "1\n2", refl, short (codes "1\n2") (omega arith), record { text = codes "3\n4\n"; read = refl; owed = owed; fits = tt; took = refl })
+done owed = (codes "1\n2", refl, short (codes "1\n2") (omega arith), record { text = codes "3\n4\n"; read = refl; owed = owed; fits = tt; took = refl }, refl)
 
 -- so what stands there is owed for both lines
 tail_of : (n : ℕ) (xs ys : List ℕ) → ◌≡◌ {A = List ℕ} (n ∷ xs) (n ∷ ys) → xs ≡ ys
@@ -108,6 +108,7 @@ done-at_the_limit bytes e owed = (
   refl,
   short bytes (omega (arith, e)),
   record { text = codes "3\n"; read = sym (append-nil bytes); owed = owed; fits = tt; took = refl },
+  refl,
 )
 
 done-past_the_limit : (bytes held : List ℕ) → length bytes ≡ 16777217 → Ends job (streams (input bytes) (out [])) (after [] held) (Ok tt) → ⊥
@@ -251,7 +252,8 @@ without-limit = refl
 done-without_limit : (bytes : List ℕ) → length bytes ≡ 16777217 →
     Owes unlimited.command unlimited.files unlimited.given unlimited.passes (lines bytes) (codes "3\n") →
     Ends unlimited (streams (input bytes) (out [])) (after [] (codes "3\n")) (Ok tt)
-done-without_limit bytes e owed = (bytes, refl, tt, record { text = codes "3\n"; read = sym (append-nil bytes); owed = owed; fits = tt; took = refl })
+done-without_limit bytes e owed =
+    (bytes, refl, tt, record { text = codes "3\n"; read = sym (append-nil bytes); owed = owed; fits = tt; took = refl }, refl)
 
 never-too_long : (left held : List ℕ) → Ends unlimited before (after left held) (Err fault.InputTooLong) → ⊥
 never-too_long left held h = h.1

@@ -24,6 +24,7 @@ use Rattle.cf_pass.specs.Passes.{Told, HaveTurned}
 use Rattle.cf_words.specs.declared.command.Flags.{Flags}
 use Rattle.cf_words.specs.declared.command.ReplyForm.{ReplyForm}
 use Rattle.cf_words.specs.Commands.{compile, run, pre, check, exec, prove, verify, gen, help, version}
+use Rattle.cf_words.specs.declared.command.Strictness.TheVariants as strictness
 use Rattle.cf_answer.specs.About.{help_text}
 use Rattle.cf_answer.specs.Branches.{AreBranched}
 use Rattle.cf_answer.specs.Certificates.{AreProofs, AreVerified, verified_line}
@@ -34,6 +35,7 @@ use Rattle.cf_answer.specs.Passes.{applied}
 use Rattle.cf_answer.specs.Replies.{too_long, bad_input, comes}
 use Rattle.cf_answer.specs.ResultNames.{AreResultNames}
 use Rattle.cf_answer.specs.Sources.{Compiles, IsTypedSource, AreToldIn, AreToldOf, IsLateSource, IsTypedTarget}
+use Rattle.cf_answer.specs.declared.unmet.Answered.{Answered}
 
 -- the same is owed
 abbrev Same : Type 0 → Type 0 → Type 0
@@ -63,9 +65,14 @@ module _ (form : ReplyForm) (written : Form) (name other source steps : List ℕ
   of-pre : Same (Owes (pre name) (source ∷ []) given last ls text) ((cs : List (ChooseTree × Branch)) × AreBranched source cs × ArePres cs text)
   of-pre = (λ h. h, λ h. h)
 
-  of-check : Same (Owes (check name) (source ∷ []) given last ls text)
-      ((told : List ToldChoose) × AreToldOf source told × (typed : TypedTree) × IsTypedSource source typed × AreChecks told typed text)
+  of-check : Same (Owes (check strictness.Told name) (source ∷ []) given last ls text)
+      ((a : Answered) × (told : List ToldChoose) × AreToldOf source told × (typed : TypedTree) × IsTypedSource source typed
+      × AreChecks (edition_of source) told typed text a)
   of-check = (λ h. h, λ h. h)
+
+  -- a strict check owes the same text
+  of-strict_check : Same (Owes (check strictness.Unique name) (source ∷ []) given last ls text) (Owes (check strictness.Told name) (source ∷ []) given last ls text)
+  of-strict_check = (λ h. h, λ h. h)
 
   of-exec : Same (Owes (exec form name) (source ∷ []) given last ls text)
       ((t : RawTarget) × IsTypedTarget source (target_tree t) × AreReplies (record { by = by_target t; form = form_of form [] }) ls text)
@@ -93,7 +100,7 @@ module _ (form : ReplyForm) (written : Form) (name other source steps : List ℕ
   of-too_few : Owes (verify name other) (source ∷ []) given last ls text → ⊥
   of-too_few h = h
 
-  of-too_many : Owes (check name) (source ∷ steps ∷ []) given last ls text → ⊥
+  of-too_many : Owes (check strictness.Told name) (source ∷ steps ∷ []) given last ls text → ⊥
   of-too_many h = h
 
   of-help_on_a_file : Owes help (source ∷ []) given last ls text → ⊥
