@@ -1,5 +1,5 @@
 -- From the answer on a text to how the command ends.
-use Rattle.std.proofs.Common.{◌≡◌, ◌∙◌, inl, inr, sym, ap, subst, refl, ℕ, ◌-◌, ◌≤◌, ◌+◌, true, false, List, [], ◌++◌, length, Option, Some, None, arith, append-nil, append_assoc}
+use Rattle.std.proofs.Common.{◌≡◌, ◌∙◌, inl, inr, sym, ap, ap₂, subst, refl, ℕ, ◌-◌, ◌≤◌, ◌+◌, Bool, true, false, nat_lt, if◌then◌else◌, List, [], ◌∷◌, ◌++◌, length, Option, Some, None, arith, append-nil, append_assoc}
 use Rattle.std.specs.Prelude.{◌⊎◌, Result, Ok, Err, IfErr, OnOk}
 use Rattle.std.specs.Io.KnownBytes.{Appends, Consumes}
 use Rattle.std.proofs.KnownBytes.{Appends-trans}
@@ -15,11 +15,15 @@ use Rattle.cf_answer.specs.Ends.{Job, input_for, answered_lines, behind_lines, R
 use Rattle.cf_answer.specs.Limits.{edition_for, input_most}
 use Rattle.cf_tree.specs.declared.base.Edition.{Edition}
 use Rattle.cf_answer.specs.Outside.{Streams, streams, AreTold, Counts, one_past}
-use Rattle.cf_answer.specs.Owed.{Replier, AreReplies, Owes, Judges}
+use Rattle.cf_answer.specs.Owed.{Replier, AreReplies, AreSourceChecks, Owes, Judges}
 use Rattle.cf_answer.specs.Passes.{ArePassed, closing}
 use Rattle.cf_answer.specs.Refusals.{Refuses}
 use Rattle.cf_answer.specs.Statuses.{fault_status, status_of, IsEarly}
 use Rattle.cf_answer.specs.Steps.{RunsOn, RunsThrough, cut, part, whole, IsOutFault}
+use Rattle.cf_words.specs.declared.command.Strictness.{Strictness}
+use Rattle.cf_answer.specs.Unmet.{end_of, judged, unmet_for}
+use Rattle.cf_answer.specs.declared.unmet.Answered.{Answered}
+use Rattle.cf_answer.specs.declared.unmet.Unmet.{Unmet}
 use Rattle.cf_answer.specs.declared.fault.Fault.{Fault}
 use Rattle.cf_answer.specs.declared.fault.Fault.TheVariants as fault
 use Rattle.cf_answer.proofs.FaultLemmas.{failed, IsTextFault, refused_fault}
@@ -319,6 +323,40 @@ unmet_answers c given last files printed bytes input old new f unmet e unlimited
       not_usage = not_usage_of f (still_other f still);
       not_file = not_file_of f (still_other f still);
     }
+
+-- how `check` ends where all its lines were written
+module _ (strictness : Strictness) (file : List ℕ) (given : List Told) (source printed : List ℕ) (a : Answered) (input : SourceSeen) (old new : SinkSeen)
+    (checks : AreSourceChecks source printed a) (all : Appends old.held new.held printed) (same : new.faults ≡ old.faults) where
+  abbrev unmet : Unmet
+  unmet = unmet_for strictness a
+
+  abbrev ends_by : Bool → Bool → Result (Unit {0}) Fault
+  ends_by b c = if b then Err (fault.AnswersNo unmet.no) else if c then Err (fault.AnswersUndecided unmet.undecided) else Ok tt
+
+  ended_so : (b : Bool) → nat_lt 0 unmet.no ≡ b → (c : Bool) → nat_lt 0 unmet.undecided ≡ c →
+      AnswersOn (check strictness file) given given (source ∷ []) (streams input old) (streams input new) (ends_by b c)
+  ended_so true e c f =
+      unmet_answers (check strictness file) given given (source ∷ []) printed printed input old new (fault.AnswersNo unmet.no) tt refl (λ edition. refl) refl
+      (a, checks) (a, checks, sym (ap (λ b. ends_by b (nat_lt 0 unmet.undecided)) e)) (sym (append-nil printed)) all same
+  ended_so false e true f =
+      unmet_answers (check strictness file) given given (source ∷ []) printed printed input old new (fault.AnswersUndecided unmet.undecided) tt refl
+      (λ edition. refl) refl (a, checks) (a, checks, sym (ap₂ ends_by e f)) (sym (append-nil printed)) all same
+  ended_so false e false f =
+      written_answers (check strictness file) given given (source ∷ []) printed printed input old new (Ok tt) refl (a, checks, sym (ap₂ ends_by e f))
+      (λ edition. refl) refl (a, checks) (sym (append-nil printed)) all (printed, [], sym (append-nil printed), all) tt
+      (no_fault old.faults new.faults (λ k. cc k) same)
+
+  pub ended_answers : AnswersOn (check strictness file) given given (source ∷ []) (streams input old) (streams input new) (judged strictness a)
+  ended_answers = ended_so (nat_lt 0 unmet.no) refl (nat_lt 0 unmet.undecided) refl
+
+-- no such end is early
+pub ended_late : (u : Unmet) → IsEarly (status_of (end_of u)) → ⊥
+ended_late u h = go (nat_lt 0 u.no) (nat_lt 0 u.undecided) h
+  where
+    go : (b c : Bool) → IsEarly (status_of (if b then Err (fault.AnswersNo u.no) else if c then Err (fault.AnswersUndecided u.undecided) else Ok tt)) → ⊥
+    go true c h = h
+    go false true h = h
+    go false false h = h
 
 -- ---- what answers the input
 
