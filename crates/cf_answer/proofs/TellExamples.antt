@@ -1,5 +1,5 @@
 -- Worked examples of what the answers of `check` say of a choose of edition 3.
-use Rattle.std.proofs.Common.{◌≡◌, ◌≢◌, ◌∙◌, ap, sym, refl, ℕ, zero, suc, ℤ, pos, negsuc, Bool, true, false, List, [], ◌∷◌, Option, Some, None, Vec, Global}
+use Rattle.std.proofs.Common.{◌≡◌, ◌≢◌, ◌∙◌, ap, sym, refl, ℤ, pos, negsuc, true, false, List, [], ◌∷◌, Some, None, Vec, Global}
 use Rattle.std.specs.Prelude.{All, Any}
 use Rattle.cf_tree.specs.declared.base.Base.TheVariants.{Int, Bool as Truth}
 use Rattle.cf_tree.specs.declared.base.Edition.TheVariants.{Two, Three}
@@ -10,7 +10,6 @@ use Rattle.cf_tree.specs.Values.{Value, number, truth, number_of, value_at, Have
 use Rattle.cf_eval.specs.Seen.{plains}
 use Rattle.cf_eval.specs.declared.value.Value.{Value as RunValue}
 use Rattle.cf_eval.specs.declared.value.Value.TheVariants as ran
-use Rattle.cf_form.specs.Branches.{values_in}
 use Rattle.cf_form.specs.Told.{ToldBranch}
 use Rattle.cf_match.specs.declared.class.Class.{Class}
 use Rattle.cf_match.specs.Classes.{IsIn}
@@ -116,16 +115,6 @@ where_true = record { truths = (0, true) ∷ []; relation = same; given = None }
 
 other_value : IsInput (Truth ∷ []) where_true (truth false ∷ []) → ⊥
 other_value i = let same : truth false ≡ truth true = i.truths 0 true refl in cc same
-
-none_is_no : (t : Bool) → ◌≡◌ {A = Option Bool} None (Some t) → ⊥
-none_is_no t e = cc e
-
-own_truth : (x : ℕ) (t : Bool) → values_in where_true.truths x ≡ Some t → value_at (truth true ∷ []) x ≡ truth t
-own_truth zero t e = let same : true ≡ t = cc e in ap truth same
-own_truth (suc x) t e = absurd (none_is_no t e)
-
-own_value : IsInput (Truth ∷ []) where_true (truth true ∷ [])
-own_value = record { bases = ((true, refl), tt); truths = own_truth; allowed = tt }
 
 -- ---- two outputs
 module _ (sample first second : Vec RunValue Global) where
