@@ -176,7 +176,8 @@ undecided_match_of_three = of_match _ there refl (cover.Undecided Overflow) tt
 -- two noes on existence and one doubt; a no and two doubts on uniqueness
 abbrev some_unmet : Answered
 some_unmet =
-    with_answered (answered one_no one_undecided) (with_answered (answered one_no one_no) (with_answered (answered one_undecided one_undecided) nothing_answered))
+    with_answered (answered one_no one_undecided)
+    (with_answered (answered one_no one_no) (with_answered (answered one_undecided one_undecided) nothing_answered))
 
 abbrev one_doubt : Answered
 one_doubt = answered nothing_unmet one_undecided
@@ -202,7 +203,8 @@ not_strict = refl
 all_yes : (judged strictness.Existing nothing_answered ≡ Ok tt) × (judged strictness.Unique nothing_answered ≡ Ok tt)
 all_yes = (refl, refl)
 
-one_answer : (fault_line (fault.AnswersNo 1) ≡ codes "check: 1 answer is no\n") × (fault_line (fault.AnswersUndecided 1) ≡ codes "check: 1 answer is undecided\n")
+one_answer : (fault_line (fault.AnswersNo 1) ≡ codes "check: 1 answer is no\n") ×
+    (fault_line (fault.AnswersUndecided 1) ≡ codes "check: 1 answer is undecided\n")
 unfolding digits
 one_answer = (refl, refl)
 

@@ -213,9 +213,12 @@ IsWalked edition matches told before qs left text a =
 module _ (edition : Edition) (matches : List MatchTree) (told : List ToldChoose) (qs : List ChooseTree) where
   pub walk_start : (ss : List SolvedChoose) (text : List ℕ) (a : Answered) → text ≡ [] → a ≡ nothing_answered → AreSolved qs ss →
       IsWalked edition matches told 0 qs ss text a
-  walk_start ss text a is none h =
-      (qs, h, λ more there w. subst (λ t. AreChecksBehind edition matches told 0 qs (t ++ more) (with_answered a there)) (sym is)
-      (subst (λ b. AreChecksBehind edition matches told 0 qs more (with_answered b there)) (sym none) w))
+  walk_start ss text a is none h = (
+    qs,
+    h,
+    λ more there w. subst (λ t. AreChecksBehind edition matches told 0 qs (t ++ more) (with_answered a there)) (sym is)
+        (subst (λ b. AreChecksBehind edition matches told 0 qs more (with_answered b there)) (sym none) w),
+  )
 
   walk_next : (before : ℕ) (s : SolvedChoose) (ss : List SolvedChoose) (text new : List ℕ) (a here : Answered) →
       IsWalked edition matches told before qs (s ∷ ss) text a → HoldConditions told →
@@ -300,4 +303,5 @@ pub program_checks : (edition : Edition) (defs low : List DefTree) (infos : List
     AreChecksBehind edition (all_matches defs) told 0 (by_number (all_chooses defs)) text a
 program_checks edition defs low infos told ss text a is same solved written =
     let here = subst (λ qs. AreSolved (by_number qs) ss) (chooses_source defs low is) solved in
-    checks_same edition (all_matches defs) (map match_tree infos) told same 0 (by_number (all_chooses defs)) text a (written (by_number (all_chooses defs)) here)
+    checks_same edition (all_matches defs) (map match_tree infos) told same 0 (by_number (all_chooses defs)) text a
+    (written (by_number (all_chooses defs)) here)

@@ -52,7 +52,8 @@ called-by : (calls_passes (compile (flags false true) a) ≡ true) × (calls_pas
 called-by = (refl, refl, refl)
 
 uncalled-by : (calls_passes (compile (flags true false) a) ≡ false) × (calls_passes (run (flags true false) form a) ≡ false) × (calls_passes (pre a) ≡ false)
-    × (calls_passes (check strictness.Told a) ≡ false) × (calls_passes (exec form a) ≡ false) × (calls_passes (prove a) ≡ false) × (calls_passes (verify a b) ≡ false)
+    × (calls_passes (check strictness.Told a) ≡ false) × (calls_passes (exec form a) ≡ false) × (calls_passes (prove a) ≡ false) ×
+    (calls_passes (verify a b) ≡ false)
     × (calls_passes help ≡ false) × (calls_passes version ≡ false)
 uncalled-by = (refl, refl, refl, refl, refl, refl, refl, refl, refl)
 
@@ -60,7 +61,8 @@ tallies-told : (tells_tallies (compile (flags true true) a) ≡ true) × (tells_
 tallies-told = (refl, refl)
 
 tallies-untold : (tells_tallies (compile (flags true false) a) ≡ false) × (tells_tallies (run (flags true false) form a) ≡ false)
-    × (tells_tallies (pre a) ≡ false) × (tells_tallies (check strictness.Told a) ≡ false) × (tells_tallies (exec form a) ≡ false) × (tells_tallies (prove a) ≡ false)
+    × (tells_tallies (pre a) ≡ false) × (tells_tallies (check strictness.Told a) ≡ false) × (tells_tallies (exec form a) ≡ false) ×
+    (tells_tallies (prove a) ≡ false)
     × (tells_tallies (verify a b) ≡ false) × (tells_tallies (gen 7) ≡ false) × (tells_tallies help ≡ false) × (tells_tallies version ≡ false)
 tallies-untold = (refl, refl, refl, refl, refl, refl, refl, refl, refl, refl)
 

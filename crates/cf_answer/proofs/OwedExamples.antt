@@ -56,10 +56,12 @@ module _ (form : ReplyForm) (written : Form) (name other source steps : List ℕ
       ((t : RawTarget) × IsCompiledBy false source given last t × IsPrinted (edition_of source) t text)
   of-plain_compile = (λ h. h, λ h. h)
 
-  of-run : Same (Owes (run flags form name) (source ∷ []) given last ls text) ((names : List (List ℕ)) × AreResultNames source names × OwesRun true (form_of form names) source given last ls text)
+  of-run : Same (Owes (run flags form name) (source ∷ []) given last ls text)
+      ((names : List (List ℕ)) × AreResultNames source names × OwesRun true (form_of form names) source given last ls text)
   of-run = (λ h. h, λ h. h)
 
-  of-plain_run : Same (Owes (run plain form name) (source ∷ []) given last ls text) ((names : List (List ℕ)) × AreResultNames source names × OwesRun false (form_of form names) source given last ls text)
+  of-plain_run : Same (Owes (run plain form name) (source ∷ []) given last ls text)
+      ((names : List (List ℕ)) × AreResultNames source names × OwesRun false (form_of form names) source given last ls text)
   of-plain_run = (λ h. h, λ h. h)
 
   of-pre : Same (Owes (pre name) (source ∷ []) given last ls text) ((cs : List (ChooseTree × Branch)) × AreBranched source cs × ArePres cs text)
@@ -71,7 +73,8 @@ module _ (form : ReplyForm) (written : Form) (name other source steps : List ℕ
   of-check = (λ h. h, λ h. h)
 
   -- a strict check owes the same text
-  of-strict_check : Same (Owes (check strictness.Unique name) (source ∷ []) given last ls text) (Owes (check strictness.Told name) (source ∷ []) given last ls text)
+  of-strict_check : Same (Owes (check strictness.Unique name) (source ∷ []) given last ls text)
+      (Owes (check strictness.Told name) (source ∷ []) given last ls text)
   of-strict_check = (λ h. h, λ h. h)
 
   of-exec : Same (Owes (exec form name) (source ∷ []) given last ls text)

@@ -97,10 +97,12 @@ module _ (sample : Vec RunValue Global) (is : sample.items ≡ ran.Int (pos 2) �
 
 -- ---- branches in order
 module _ (sample : Vec RunValue Global) (d : Doubt) (b c : ToldBranch) where
-  all_branches : Same (TellsExistence asked (b ∷ c ∷ []) existence.Always) (All (λ x. (env : List Value) → IsInput asked.scope x env → HasOutputs asked x env) (b ∷ c ∷ []))
+  all_branches : Same (TellsExistence asked (b ∷ c ∷ []) existence.Always)
+      (All (λ x. (env : List Value) → IsInput asked.scope x env → HasOutputs asked x env) (b ∷ c ∷ []))
   all_branches = (λ h. h, λ h. h)
 
-  some_branch : Same (TellsExistence asked (b ∷ c ∷ []) (existence.Missing sample)) (Any (λ x. IsSample asked x (plains sample.items) (HasNone asked x)) (b ∷ c ∷ []))
+  some_branch : Same (TellsExistence asked (b ∷ c ∷ []) (existence.Missing sample))
+      (Any (λ x. IsSample asked x (plains sample.items) (HasNone asked x)) (b ∷ c ∷ []))
   some_branch = (λ h. h, λ h. h)
 
   undecided_says_nothing : TellsExistence asked (b ∷ c ∷ []) (existence.Undecided d) × TellsUniqueness asked (b ∷ c ∷ []) (uniqueness.Undecided d)

@@ -51,8 +51,12 @@ module _ (scope outputs : List Base) (rel : RelTree) (are : All IsOutput outputs
           somewhere = (two.somewhere.0, record { bases = two.somewhere.1.bases; same = two.somewhere.1.same });
           input = λ env n. no_truths env n.bases;
           says = λ env n. (
-              (plains first.items, two.first_solves env (record { bases = n.bases; same = n.same }), sym (shown_is outputs (plains first.items) are one.0)),
-              (plains second.items, two.second_solves env (record { bases = n.bases; same = n.same }), sym (shown_is outputs (plains second.items) are other.0)),
+            (plains first.items, two.first_solves env (record { bases = n.bases; same = n.same }), sym (shown_is outputs (plains first.items) are one.0)),
+            (
+              plains second.items,
+              two.second_solves env (record { bases = n.bases; same = n.same }),
+              sym (shown_is outputs (plains second.items) are other.0),
+            ),
           );
         },
         λ e. two.different (ap (take (length outputs)) e),
