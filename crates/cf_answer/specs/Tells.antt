@@ -1,8 +1,7 @@
 -- What the answers of `check` on a choose of edition 3 say, by what its condition and its relation mean. Nothing is said of how an answer is found, and an
 -- undecided one promises nothing.
-use Rattle.std.specs.Prelude.{ℕ, ℤ, ◌≡◌, ◌≢◌, ◌<◌, ⊤, Bool, true, Option, Some, None, List, [], ◌∷◌, length, map, All, Any}
+use Rattle.std.specs.Prelude.{ℕ, ℤ, ◌≡◌, ◌≢◌, ◌<◌, ◌&&◌, ⊤, Bool, true, Option, Some, None, List, [], ◌∷◌, length, map, All, Any}
 use Rattle.cf_tree.specs.declared.base.Base.{Base}
-use Rattle.cf_tree.specs.declared.base.Base.TheVariants.{Bool as Truth}
 use Rattle.cf_tree.specs.declared.base.Edition.{Edition}
 use Rattle.cf_tree.specs.declared.base.Edition.TheVariants.{Two, Three}
 use Rattle.cf_tree.specs.Occurs.{rel_holds}
@@ -10,7 +9,7 @@ use Rattle.cf_tree.specs.Relation.{Holds, Sol, IsTyped}
 use Rattle.cf_tree.specs.RelTree.{RelTree}
 use Rattle.cf_tree.specs.Values.{Value, truth, value_at, HaveBases}
 use Rattle.cf_eval.specs.Seen.{plains}
-use Rattle.cf_form.specs.Branches.{is_among, values_in}
+use Rattle.cf_form.specs.Branches.{Branch, is_among, is_truth as is_truth_base, values_in}
 use Rattle.cf_form.specs.Told.{ToldBranch, ToldChoose}
 use Rattle.cf_match.specs.declared.class.Class.{Class}
 use Rattle.cf_match.specs.Classes.{IsIn}
@@ -133,8 +132,16 @@ IsOfTwo uniqueness.Unique = ⊤
 IsOfTwo (uniqueness.Two sample first second) = plains first.items ≢ plains second.items
 IsOfTwo (uniqueness.Undecided d) = ⊤
 
+-- truth variables of the scope that samples name
+abbrev pub is_truth : Asked → ℕ → Bool
+is_truth a x = is_truth_base (base_at a.scope x) && is_among x a.levels
+
+abbrev pub are_truths : Asked → Branch → Bool
+are_truths a [] = true
+are_truths a (t ∷ ts) = is_truth a t.0 && are_truths a ts
+
 -- what is asked of a branch is of this scope: samples name its truth variables, and all variables of which its condition and its relation speak
 pub record Fits (a : Asked) (b : ToldBranch) : Type 0 where
-  pub truths : All (λ t. (base_at a.scope t.0 ≡ Truth) × (is_among t.0 a.levels ≡ true)) b.truths
+  pub truths : are_truths a b.truths ≡ true
   pub condition : IsCondition a.scope b.given
   pub named : (x : ℕ) → x < length a.scope → rel_holds x (existence_question b) ≡ true → is_among x a.levels ≡ true

@@ -1,7 +1,6 @@
 //! What `check` asks of a choose that is told of, branch by branch.
 ghost use Rattle.std.specs.Prelude.{◌≡◌, ◌≢◌, ◌<◌, ◌||◌, ℕ, true, false, int_lt, pos, All, IfOk, Option, Some, None, length, map};
 ghost use Rattle.cf_tree.specs.Occurs.{rel_holds as rel_holds_of};
-ghost use Rattle.cf_tree.specs.declared.base.Base.TheVariants.{Bool as Truth};
 ghost use Rattle.cf_tree.specs.RelTree.{rel_not, rel_or};
 ghost use Rattle.cf_tree.specs.RelView.{rel_tree};
 ghost use Rattle.cf_tree.specs.Values.{elements, number as the_number, number_of, truth as the_truth};
@@ -18,6 +17,7 @@ ghost use Rattle.cf_answer.specs.ToldChecks.{first_existence as first_existence_
 ghost use Rattle.cf_answer.specs.ToldChecks.{is_told as is_told_of, named_levels as named_levels_of};
 ghost use Rattle.cf_answer.specs.ToldChecks.{shown_value as shown_value_of, shown_values as shown_values_of, some_condition_holds as some_condition_holds_of};
 ghost use Rattle.cf_answer.specs.ToldChecks.{told_of as the_told_of, truth_or};
+ghost use Rattle.cf_answer.specs.Tells.{are_truths as are_truths_of, is_truth as is_truth_of};
 ghost use Rattle.cf_answer.specs.Tells.{Fits, HoldsCondition, IsCondition, IsOfTwo, TellsExistence, TellsExistenceIn, TellsUniqueness, TellsUniquenessIn};
 ghost use Rattle.cf_answer.specs.Checking.{IsExistenceOf, IsRefusedExistence, IsRefusedUniqueness, IsUniquenessOf, asked_view, named_by, telling_view};
 
@@ -424,18 +424,20 @@ fn fits(asked: &Asked<'_>, branch: &Branch) -> bool
 
 // Whether these are truth variables of the scope that samples name.
 fn are_truths(asked: &Asked<'_>, truths: &[TruthAt]) -> bool
-    ensures { result ≡ true → All (λ t. (the_base_at asked.now.scope.now t.0 ≡ Truth) × (is_among_of t.0 asked.now.levels.now ≡ true)) (map truth_at truths.now) }
+    ensures { result ≡ are_truths_of (asked_view asked.now) (map truth_at truths.now) }
 {
-    for truth in truths {
+    let mut rest = truths;
+    while let Some((truth, more)) = rest.split_first() {
         if !is_truth(asked, truth.level) {
             return false;
         }
+        rest = more;
     }
     true
 }
 
 fn is_truth(asked: &Asked<'_>, level: u32) -> bool
-    ensures { result ≡ true → (the_base_at asked.now.scope.now level ≡ Truth) × (is_among_of level asked.now.levels.now ≡ true) }
+    ensures { result ≡ is_truth_of (asked_view asked.now) level }
 {
     match base_at(asked.scope, level) {
         Base::Bool => is_among(level, asked.levels),
@@ -462,11 +464,21 @@ fn are_named(asked: &Asked<'_>, branch: &Branch) -> bool
         return false;
     };
     for level in 0..end {
-        if asks_of(branch, level) && !is_among(level, asked.levels) {
+        if !is_named_if_asked(asked, branch, level) {
             return false;
         }
     }
     true
+}
+
+fn is_named_if_asked(asked: &Asked<'_>, branch: &Branch, level: u32) -> bool
+    ensures { result ≡ true → rel_holds_of level (question_of (told_branch branch.now)) ≡ true → is_among_of level asked.now.levels.now ≡ true }
+{
+    if asks_of(branch, level) {
+        is_among(level, asked.levels)
+    } else {
+        true
+    }
 }
 
 fn asks_of(branch: &Branch, level: u32) -> bool
