@@ -537,20 +537,19 @@ fn is_of_two(answer: &UniquenessAnswer) -> bool
 fn are_same(first: &[Value], second: &[Value]) -> bool
     ensures { result ≡ false → plains first.now ≢ plains second.now }
 {
-    if first.len() != second.len() {
-        return false;
-    }
-    let mut rest = second;
-    for value in first {
-        let Some((other, more)) = rest.split_first() else {
-            return true;
+    let mut rest = first;
+    let mut others = second;
+    while let Some((value, more)) = rest.split_first() {
+        let Some((other, behind)) = others.split_first() else {
+            return false;
         };
         if !is_same(value, other) {
             return false;
         }
         rest = more;
+        others = behind;
     }
-    true
+    others.is_empty()
 }
 
 fn is_same(value: &Value, other: &Value) -> bool
