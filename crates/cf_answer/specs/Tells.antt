@@ -5,12 +5,12 @@ use Rattle.cf_tree.specs.declared.base.Base.{Base}
 use Rattle.cf_tree.specs.declared.base.Edition.{Edition}
 use Rattle.cf_tree.specs.declared.base.Edition.TheVariants.{Two, Three}
 use Rattle.cf_tree.specs.Occurs.{rel_holds}
-use Rattle.cf_tree.specs.Relation.{Holds, Sol, IsTyped}
+use Rattle.cf_tree.specs.Relation.{Sol, IsTyped}
 use Rattle.cf_tree.specs.RelTree.{RelTree}
 use Rattle.cf_tree.specs.Values.{Value, truth, value_at, HaveBases}
 use Rattle.cf_eval.specs.Seen.{plains}
 use Rattle.cf_form.specs.Branches.{Branch, is_among, is_truth as is_truth_base, values_in}
-use Rattle.cf_form.specs.Told.{ToldBranch, ToldChoose}
+use Rattle.cf_form.specs.Told.{Allows, ToldBranch}
 use Rattle.cf_match.specs.declared.class.Class.{Class}
 use Rattle.cf_match.specs.Classes.{IsIn}
 use Rattle.cf_warn.specs.Covers.{IsCover}
@@ -25,11 +25,6 @@ use Rattle.cf_warn.specs.declared.coverage.Cover.TheVariants as cover
 use Rattle.cf_answer.specs.ToldChecks.{Asked, existence_question, shown_values}
 
 -- ---- inputs
--- the condition holds, if there is one
-abbrev pub Allows : Option RelTree → List Value → Type 0
-Allows None env = ⊤
-Allows (Some p) env = Holds p env
-
 -- values of the variables in scope that belong to a branch, and for which the condition holds
 pub record IsInput (scope : List Base) (b : ToldBranch) (env : List Value) : Type 0 where
   pub bases : HaveBases scope env
@@ -114,13 +109,6 @@ TellsCover Two classes c = IsCover classes c
 TellsCover Three classes c = TellsClasses classes c
 
 -- ---- within the program
--- The condition of a branch is part of its relation, so that it holds where outputs satisfy that.
-abbrev pub HoldsCondition : ToldBranch → Type 0
-HoldsCondition b = (env : List Value) → Holds b.relation env → Allows b.given env
-
-abbrev pub HoldConditions : List ToldChoose → Type 0
-HoldConditions told = All (λ c. All HoldsCondition c.branches) told
-
 -- a condition speaks of variables in scope alone
 abbrev pub IsCondition : List Base → Option RelTree → Type 0
 IsCondition scope None = ⊤

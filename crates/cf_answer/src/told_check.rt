@@ -6,6 +6,7 @@ ghost use Rattle.cf_tree.specs.RelView.{rel_tree};
 ghost use Rattle.cf_tree.specs.Values.{elements, number as the_number, number_of, truth as the_truth};
 ghost use Rattle.cf_eval.specs.Seen.{plain, plains};
 ghost use Rattle.cf_form.specs.Branches.{is_among as is_among_of, values_in};
+ghost use Rattle.cf_form.specs.Told.{HoldsCondition};
 ghost use Rattle.cf_form.specs.ToldView.{given_tree, told_branch, told_choose, truth_at};
 ghost use Rattle.cf_choose.specs.Solved.{IsOutput, SolveAnswer};
 ghost use Rattle.cf_warn.specs.Questions.{base_at as the_base_at};
@@ -18,7 +19,7 @@ ghost use Rattle.cf_answer.specs.ToldChecks.{is_told as is_told_of, named_levels
 ghost use Rattle.cf_answer.specs.ToldChecks.{shown_value as shown_value_of, shown_values as shown_values_of, some_condition_holds as some_condition_holds_of};
 ghost use Rattle.cf_answer.specs.ToldChecks.{told_of as the_told_of, truth_or};
 ghost use Rattle.cf_answer.specs.Tells.{are_truths as are_truths_of, is_truth as is_truth_of};
-ghost use Rattle.cf_answer.specs.Tells.{Fits, HoldsCondition, IsCondition, IsOfTwo, TellsExistence, TellsExistenceIn, TellsUniqueness, TellsUniquenessIn};
+ghost use Rattle.cf_answer.specs.Tells.{Fits, IsCondition, IsOfTwo, TellsExistence, TellsExistenceIn, TellsUniqueness, TellsUniquenessIn};
 ghost use Rattle.cf_answer.specs.Checking.{IsExistenceOf, IsRefusedExistence, IsRefusedUniqueness, IsUniquenessOf, asked_view, named_by, telling_view};
 
 use cf_choose::{ChooseFault, Solved, solve};
