@@ -1,6 +1,6 @@
 -- What the answers of `check` on a choose of edition 3 say, by what its condition and its relation mean. Nothing is said of how an answer is found, and an
 -- undecided one promises nothing.
-use Rattle.std.specs.Prelude.{ℕ, ℤ, ◌≡◌, ◌≢◌, ◌<◌, ◌&&◌, ⊤, Bool, true, Option, Some, None, List, [], ◌∷◌, length, map, All, Any}
+use Rattle.std.specs.Prelude.{ℕ, ℤ, ◌≡◌, ◌≢◌, ◌<◌, ◌&&◌, ⊤, Bool, true, not, Option, Some, None, List, [], ◌∷◌, length, map, All, Any}
 use Rattle.cf_tree.specs.declared.base.Base.{Base}
 use Rattle.cf_tree.specs.declared.base.Edition.{Edition}
 use Rattle.cf_tree.specs.declared.base.Edition.TheVariants.{Two, Three}
@@ -120,6 +120,10 @@ IsOfTwo uniqueness.Unique = ⊤
 IsOfTwo (uniqueness.Two sample first second) = plains first.items ≢ plains second.items
 IsOfTwo (uniqueness.Undecided d) = ⊤
 
+-- a variable that samples name, and that is no truth variable
+abbrev pub is_named : Asked → ℕ → Bool
+is_named a x = not (is_truth_base (base_at a.scope x)) && is_among x a.levels
+
 -- truth variables of the scope that samples name
 abbrev pub is_truth : Asked → ℕ → Bool
 is_truth a x = is_truth_base (base_at a.scope x) && is_among x a.levels
@@ -128,8 +132,9 @@ abbrev pub are_truths : Asked → Branch → Bool
 are_truths a [] = true
 are_truths a (t ∷ ts) = is_truth a t.0 && are_truths a ts
 
--- what is asked of a branch is of this scope: samples name its truth variables, and all variables of which its condition and its relation speak
+-- what is asked of a branch is of this scope: samples name its truth variables, and all variables of which its condition and its relation speak, which are
+-- numbers and sets
 pub record Fits (a : Asked) (b : ToldBranch) : Type 0 where
   pub truths : are_truths a b.truths ≡ true
   pub condition : IsCondition a.scope b.given
-  pub named : (x : ℕ) → x < length a.scope → rel_holds x (existence_question b) ≡ true → is_among x a.levels ≡ true
+  pub named : (x : ℕ) → x < length a.scope → rel_holds x (existence_question b) ≡ true → is_named a x ≡ true
