@@ -33,4 +33,5 @@ def jobs() -> Iterator[Job]:
     chapters = [text for text in PAGE.read_text(encoding="utf-8").split("\n## ") if SCRIPT.search(text)]
     yield Job("scripts", partial(has_scripts, chapters))
     for text in chapters:
-        yield Job(f"scripts, {text.partition(chr(10))[0]}", partial(try_chapter, text))
+        heading, _, commands = text.partition("\n")
+        yield Job(f"scripts, {heading}", partial(try_chapter, commands))
