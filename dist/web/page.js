@@ -434,21 +434,21 @@ const examples = [
   "name": "quotient",
   "group": "Tasks",
   "title": "quotient: Coefficients that are inputs",
-  "source": "# The number that a times gives b.\ndef main(a: int, b: int): int = choose (x: int) where a * x == b\n",
+  "source": "comfusy 3\n# The number that a times gives b.\ndef main(a: int, b: int): int = choose (x: int) where a * x == b\n",
   "lines": "3 12\n3 10\n0 5\n0 0\n-4 12\n"
  },
  {
   "name": "anystamps",
   "group": "Tasks",
   "title": "anystamps: Coefficients that are inputs",
-  "source": "# Stamps of p and of q for a letter of a cents: the values of the stamps stand in the line.\ndef main(p: int, q: int, a: int): (int, int) =\n  choose (x: int, y: int) where p * x + q * y == a && 0 <= x && 0 <= y\n",
+  "source": "comfusy 3\n# Stamps of p and of q for a letter of a cents: the values of the stamps stand in the line.\ndef main(p: int, q: int, a: int): (int, int) =\n  choose (x: int, y: int) where p * x + q * y == a && 0 <= x && 0 <= y\n",
   "lines": "3 5 8\n3 5 7\n7 9 100\n0 5 10\n0 0 10\n170141183460469231731687303715884105727 5 8\n3 5 1000000\n"
  },
  {
-  "name": "combination",
+  "name": "any-sum",
   "group": "Tasks",
-  "title": "combination: Coefficients that are inputs",
-  "source": "# p times x and q times y, which together lie from a to b.\ndef main(p: int, q: int, a: int, b: int): (int, int) =\n  choose (x: int, y: int) where a <= p * x + q * y && p * x + q * y <= b\n",
+  "title": "any-sum: Coefficients that are inputs",
+  "source": "comfusy 3\n# p times x and q times y, which together lie from a to b.\ndef main(p: int, q: int, a: int, b: int): (int, int) = choose (x: int, y: int) where a <= p * x + q * y <= b\n",
   "lines": "2 3 7 7\n2097152 2097153 0 9\n3 5 7 7\n"
  },
  {
@@ -1007,6 +1007,13 @@ const examples = [
   "title": "one",
   "source": "# One number for each a: a itself, held between 0 and 1.\ndef main(a: int): int =\n  choose (x: int) where (a < 0 && x == 0) || (0 <= a && a <= 1 && x == a) || (a > 1 && x == 1)\n",
   "lines": "0\n1\n2\n-1\n"
+ },
+ {
+  "name": "combination",
+  "group": "Language 2",
+  "title": "combination",
+  "source": "# p times x and q times y, which together lie from a to b.\ndef main(p: int, q: int, a: int, b: int): (int, int) =\n  choose (x: int, y: int) where a <= p * x + q * y && p * x + q * y <= b\n",
+  "lines": "2 3 7 7\n2097152 2097153 0 9\n3 5 7 7\n"
  },
  {
   "name": "outside",

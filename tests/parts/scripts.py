@@ -1,5 +1,5 @@
-"""The chapters of the guide with a script for a shell: their commands, the script laid beside the examples under the name by which the first command behind it
-starts it.
+"""The chapters of the guide with a script for a shell, or with a command that writes a file: their commands, each script laid beside the examples under the name
+by which the first command behind it starts it.
 """
 
 from __future__ import annotations
@@ -16,6 +16,7 @@ from .quoted import lay, try_commands
 
 PAGE = ROOT / "docs/GUIDE.md"
 SCRIPT = re.compile(r"^```sh\n(?P<text>.*?)^```$.*?^\$ sh (?P<name>\S+)", re.DOTALL | re.MULTILINE)
+WRITING = re.compile(r"^\$ .* > \S+$", re.MULTILINE)
 
 
 def try_chapter(text: str, room: Room) -> Checks:
@@ -25,13 +26,14 @@ def try_chapter(text: str, room: Room) -> Checks:
     yield from try_commands("scripts", text, room)
 
 
-def has_scripts(chapters: list[str], _: Room) -> Checks:
-    yield equal("scripts, chapters", (bool(chapters), True))
+def has_chapters(pattern: re.Pattern[str], chapters: list[str], _: Room) -> Checks:
+    yield equal("scripts, chapters", (any(pattern.search(text) for text in chapters) or pattern.pattern, True))
 
 
 def jobs() -> Iterator[Job]:
-    chapters = [text for text in PAGE.read_text(encoding="utf-8").split("\n## ") if SCRIPT.search(text)]
-    yield Job("scripts", partial(has_scripts, chapters))
-    for text in chapters:
+    chapters = PAGE.read_text(encoding="utf-8").split("\n## ")
+    for pattern in SCRIPT, WRITING:
+        yield Job("scripts", partial(has_chapters, pattern, chapters))
+    for text in (text for text in chapters if SCRIPT.search(text) or WRITING.search(text)):
         heading, _, commands = text.partition("\n")
         yield Job(f"scripts, {heading}", partial(try_chapter, commands))
