@@ -1,4 +1,5 @@
 //! Bounds of columns, and of rows by them.
+use crate::plan::without;
 use crate::rows::{column_count, last_entry};
 use cf_close::{Fact, FactKind, Multiple};
 use cf_linear::Row;
@@ -22,17 +23,20 @@ pub(crate) struct Bounds {
 impl Bounds {
     /// Those of columns below the number.
     pub(crate) fn of(alloc: Global, facts: &[Fact], columns: u32) -> Result<Bounds, Stop> {
-        let mut low = Vec::new(alloc);
-        let mut high = Vec::new(alloc);
-        for _ in 0..columns {
-            low.push(None)?;
-            high.push(None)?;
-        }
+        let low = no_bounds(alloc, columns)?;
+        let high = no_bounds(alloc, columns)?;
         let mut bounds = Bounds { low, high };
-        for (i, fact) in facts.iter().enumerate() {
-            bounds.add(fact, i)?;
+        match bounds.add_all(facts) {
+            Ok(()) => Ok(bounds),
+            Err(stop) => Err(without(bounds, stop)),
         }
-        Ok(bounds)
+    }
+
+    fn add_all(&mut self, facts: &[Fact]) -> Result<(), Stop> {
+        for (place, fact) in facts.iter().enumerate() {
+            self.add(fact, place)?;
+        }
+        Ok(())
     }
 
     fn add(&mut self, fact: &Fact, place: usize) -> Result<(), Stop> {
@@ -90,6 +94,14 @@ impl Bounds {
             self.low(column)
         }
     }
+}
+
+fn no_bounds(alloc: Global, columns: u32) -> Result<Vec<Option<Bound>>, Stop> {
+    let mut bounds = Vec::new(alloc);
+    for _ in 0..columns {
+        bounds.push(None)?;
+    }
+    Ok(bounds)
 }
 
 /// The value of a row at bounds of its columns, and the facts that say so.

@@ -1,12 +1,12 @@
 //! Branches of ors that the bounds refute or imply.
-use crate::bounds::{Bounds, Sum, greatest_value};
-use crate::frame::Frame;
+use crate::bounds::{Bounds, greatest_value};
+use crate::frame::{Frame, Solved};
 use crate::numbers::divides;
-use crate::plan::Work;
+use crate::plan::{Work, without};
 use crate::rows::{Likeness, column_count, compared, divisor, lone};
 use cf_close::{Action, Conflict, Conjunction, Fact, FactKind, Multiple, Or};
 use cf_linear::Row;
-use cf_simplex::{Stop, combination, opposite, total};
+use cf_simplex::{Stop, combination, opposite, product, total};
 use std::alloc::Global;
 
 /// What the node says.
@@ -57,10 +57,8 @@ fn is_implied(
     or: &Or,
     work: &mut Work,
 ) -> Result<bool, Stop> {
-    let branches = or.branches();
-    for i in 0..branches.len() {
-        let branch = branches.len() - 1 - i;
-        if let Some(conjunction) = conjunctions.get(branches[branch] as usize) {
+    for (branch, at) in or.branches().iter().enumerate().rev() {
+        if let Some(conjunction) = conjunctions.get(*at as usize) {
             work.effort
                 .step(conjunction.facts().len().saturating_add(2))?;
             match branch_verdict(alloc, known, conjunction)? {
@@ -96,7 +94,7 @@ fn branch_verdict(
     })
 }
 
-/// What is known of a fact or a branch at a node.
+/// What is known of a branch at a node.
 #[derive(Drop)]
 enum Verdict {
     /// It is in conflict with the node.
@@ -105,7 +103,23 @@ enum Verdict {
     Open,
 }
 
-/// A fact in which no solved column stands, its place, and the facts that take them out.
+/// What is known of a fact in which no solved column stands.
+#[derive(Drop)]
+enum Judgement {
+    Refuted(Refusal),
+    Implied,
+    Open,
+}
+
+/// So many times a fact of a branch never holds beside these facts of the node.
+#[derive(Drop)]
+struct Refusal {
+    sign: i128,
+    node: Vec<Multiple>,
+    divisor: i128,
+}
+
+/// A fact of a branch by its place, without solved columns, and the facts that took them out.
 #[derive(Drop)]
 struct Cleaned {
     row: Row,
@@ -120,61 +134,71 @@ impl Cleaned {
             place,
             multiples: Vec::new(alloc),
         };
+        match cleaned.take_all_out(alloc, known) {
+            Ok(()) => Ok(cleaned),
+            Err(stop) => Err(without(cleaned, stop)),
+        }
+    }
+
+    fn take_all_out(&mut self, alloc: Global, known: &Known<'_>) -> Result<(), Stop> {
         for solved in &known.frame.solved {
             if let Some(equation) = known.facts.get(solved.fact) {
-                cleaned.take_out(alloc, solved.column, solved.fact, &equation.row)?;
+                self.take_out(alloc, *solved, &equation.row)?;
             }
         }
-        Ok(cleaned)
+        Ok(())
     }
 
     // Takes a column out by its equation.
-    fn take_out(
-        &mut self,
-        alloc: Global,
-        column: u32,
-        fact: usize,
-        equation: &Row,
-    ) -> Result<(), Stop> {
-        let entry = self.row.entry(column);
+    fn take_out(&mut self, alloc: Global, solved: Solved, equation: &Row) -> Result<(), Stop> {
+        let entry = self.row.entry(solved.column);
         if entry == 0 {
             return Ok(());
         }
-        let factor = if equation.entry(column) > 0 {
+        let factor = if equation.entry(solved.column) > 0 {
             opposite(entry)?
         } else {
             entry
         };
-        self.row = combination(alloc, 1, &self.row, factor, equation)?;
-        self.multiples.push(Multiple { fact, factor })?;
+        let row = combination(alloc, 1, &self.row, factor, equation)?;
+        self.row = row;
+        self.multiples.push(Multiple {
+            fact: solved.fact,
+            factor,
+        })?;
         Ok(())
     }
 
-    // The other sign of each factor.
-    fn turn(&mut self) -> Result<(), Stop> {
-        for multiple in self.multiples.iter_mut() {
-            multiple.factor = opposite(multiple.factor)?;
+    // The conflict of the branch with the node.
+    fn conflict(&self, alloc: Global, refusal: &Refusal) -> Result<Conflict, Stop> {
+        let node = joined(alloc, &self.multiples, refusal.sign, &refusal.node)?;
+        match lone(alloc, self.place, refusal.sign) {
+            Ok(branch) => Ok(Conflict {
+                node,
+                branch,
+                divisor: refusal.divisor,
+            }),
+            Err(stop) => Err(without(node, stop)),
         }
-        Ok(())
     }
+}
 
-    // The conflict of the fact and these of the node.
-    fn conflict(
-        mut self,
-        alloc: Global,
-        node: Vec<Multiple>,
-        sign: i128,
-        divisor: i128,
-    ) -> Result<Verdict, Stop> {
-        let mut more = node;
-        self.multiples.append(&mut more)?;
-        let branch = lone(alloc, self.place, sign)?;
-        Ok(Verdict::Refuted(Conflict {
-            node: self.multiples,
-            branch,
-            divisor,
-        }))
+// `sign` times the first, and the second.
+fn joined(
+    alloc: Global,
+    first: &[Multiple],
+    sign: i128,
+    second: &[Multiple],
+) -> Result<Vec<Multiple>, Stop> {
+    let mut all = Vec::new(alloc);
+    for multiple in first {
+        all.push(Multiple {
+            fact: multiple.fact,
+            factor: product(sign, multiple.factor)?,
+        })?;
     }
+    all.extend_from_slice(second)?;
+    Ok(all)
 }
 
 fn verdict_of(
@@ -184,54 +208,94 @@ fn verdict_of(
     place: usize,
 ) -> Result<Verdict, Stop> {
     let cleaned = Cleaned::of(alloc, known, &fact.row, place)?;
-    match fact.kind {
-        FactKind::Equation => equation_verdict(alloc, known, cleaned),
-        FactKind::Inequality => inequality_verdict(alloc, known, cleaned),
-    }
+    let found = verdict_by(alloc, known, fact.kind, &cleaned);
+    drop(cleaned);
+    found
 }
 
-fn equation_verdict(alloc: Global, known: &Known<'_>, cleaned: Cleaned) -> Result<Verdict, Stop> {
-    let k = cleaned.row.entry(0);
-    if column_count(&cleaned.row) == 0 {
-        if k == 0 {
-            return Ok(Verdict::Implied);
+fn verdict_by(
+    alloc: Global,
+    known: &Known<'_>,
+    kind: FactKind,
+    cleaned: &Cleaned,
+) -> Result<Verdict, Stop> {
+    match judged(alloc, known, kind, &cleaned.row)? {
+        Judgement::Refuted(refusal) => {
+            let conflict = cleaned.conflict(alloc, &refusal);
+            drop(refusal);
+            Ok(Verdict::Refuted(conflict?))
         }
-        return cleaned.conflict(alloc, Vec::new(alloc), 1, 1);
+        Judgement::Implied => Ok(Verdict::Implied),
+        Judgement::Open => Ok(Verdict::Open),
     }
-    let g = divisor(&cleaned.row);
-    if g > 1 && !divides(g, k) {
-        return cleaned.conflict(alloc, Vec::new(alloc), 1, g);
-    }
-    if let Some(most) = below(alloc, &cleaned.row, 1, known.bounds)? {
-        return cleaned.conflict(alloc, most.multiples, 1, 1);
-    }
-    if let Some(most) = below(alloc, &cleaned.row, -1, known.bounds)? {
-        let mut turned = cleaned;
-        turned.turn()?;
-        return turned.conflict(alloc, most.multiples, -1, 1);
-    }
-    Ok(Verdict::Open)
 }
 
-// The greatest value of `sign` times a row, where it is below 0.
-fn below(alloc: Global, row: &Row, sign: i128, bounds: &Bounds) -> Result<Option<Sum>, Stop> {
+fn judged(alloc: Global, known: &Known<'_>, kind: FactKind, row: &Row) -> Result<Judgement, Stop> {
+    match kind {
+        FactKind::Equation => judged_equation(alloc, row, known.bounds),
+        FactKind::Inequality => judged_inequality(alloc, known, row),
+    }
+}
+
+fn judged_equation(alloc: Global, row: &Row, bounds: &Bounds) -> Result<Judgement, Stop> {
+    let k = row.entry(0);
+    if column_count(row) == 0 {
+        if k == 0 {
+            return Ok(Judgement::Implied);
+        }
+        return Ok(refused(1, Vec::new(alloc), 1));
+    }
+    let g = divisor(row);
+    if g > 1 && !divides(g, k) {
+        return Ok(refused(1, Vec::new(alloc), g));
+    }
+    if let Some(node) = below(alloc, row, 1, bounds)? {
+        return Ok(refused(1, node, 1));
+    }
+    if let Some(node) = below(alloc, row, -1, bounds)? {
+        return Ok(refused(-1, node, 1));
+    }
+    Ok(Judgement::Open)
+}
+
+fn refused(sign: i128, node: Vec<Multiple>, divisor: i128) -> Judgement {
+    Judgement::Refuted(Refusal {
+        sign,
+        node,
+        divisor,
+    })
+}
+
+// The facts by which `sign` times a row is always below 0, if it is.
+fn below(
+    alloc: Global,
+    row: &Row,
+    sign: i128,
+    bounds: &Bounds,
+) -> Result<Option<Vec<Multiple>>, Stop> {
     match greatest_value(alloc, row, sign, bounds)? {
-        Some(most) => Ok(if most.value < 0 { Some(most) } else { None }),
+        Some(most) => {
+            if most.value < 0 {
+                return Ok(Some(most.multiples));
+            }
+            drop(most);
+            Ok(None)
+        }
         None => Ok(None),
     }
 }
 
-fn inequality_verdict(alloc: Global, known: &Known<'_>, cleaned: Cleaned) -> Result<Verdict, Stop> {
-    if let Some(most) = below(alloc, &cleaned.row, 1, known.bounds)? {
-        return cleaned.conflict(alloc, most.multiples, 1, 1);
+fn judged_inequality(alloc: Global, known: &Known<'_>, row: &Row) -> Result<Judgement, Stop> {
+    if let Some(node) = below(alloc, row, 1, known.bounds)? {
+        return Ok(refused(1, node, 1));
     }
-    if is_never_below(alloc, &cleaned.row, known.bounds)? {
-        return Ok(Verdict::Implied);
+    if is_never_below(alloc, row, known.bounds)? {
+        return Ok(Judgement::Implied);
     }
-    match find_alike(known, &cleaned.row)? {
-        Alike::Opposite(fact) => cleaned.conflict(alloc, lone(alloc, fact, 1)?, 1, 1),
-        Alike::Same => Ok(Verdict::Implied),
-        Alike::Other => Ok(Verdict::Open),
+    match find_alike(known, row)? {
+        Alike::Opposite(fact) => Ok(refused(1, lone(alloc, fact, 1)?, 1)),
+        Alike::Same => Ok(Judgement::Implied),
+        Alike::Other => Ok(Judgement::Open),
     }
 }
 
@@ -268,8 +332,14 @@ fn find_alike(known: &Known<'_>, row: &Row) -> Result<Alike, Stop> {
 fn compared_with(fact: &Fact, place: usize, row: &Row) -> Result<Alike, Stop> {
     let (k, m) = (fact.row.entry(0), row.entry(0));
     match compared(&fact.row, row) {
-        Likeness::Opposite if total(k, m)? < 0 => Ok(Alike::Opposite(place)),
-        Likeness::Same if k <= m => Ok(Alike::Same),
-        _ => Ok(Alike::Other),
+        Likeness::Opposite => {
+            if total(k, m)? < 0 {
+                Ok(Alike::Opposite(place))
+            } else {
+                Ok(Alike::Other)
+            }
+        }
+        Likeness::Same => Ok(if k <= m { Alike::Same } else { Alike::Other }),
+        Likeness::Other => Ok(Alike::Other),
     }
 }

@@ -1,8 +1,8 @@
 //! Residue cuts: columns that a number does not divide give way to their bounds, so that the rest has a divisor.
 use crate::branches::Known;
 use crate::numbers::divides;
-use crate::plan::{Plan, Work};
-use crate::rows::column_count;
+use crate::plan::{Plan, Work, without};
+use crate::rows::{column_count, is_opposite, lone};
 use cf_close::{Action, Fact, FactKind, Multiple};
 use cf_linear::Row;
 use cf_simplex::{Stop, common, product, quotient, size, total};
@@ -66,7 +66,7 @@ fn is_first(row: &Row, place: usize, g: i128) -> bool {
             return true;
         }
         let (column, entry) = row.at(i);
-        if column != 0 && (entry == g || entry.checked_neg() == Some(g)) {
+        if column != 0 && (entry == g || is_opposite(entry, g)) {
             return false;
         }
     }
@@ -83,15 +83,13 @@ fn add_cut(
     plan: &mut Plan,
 ) -> Result<(), Stop> {
     let mut residue = Residue::of(alloc, row, place, g)?;
-    for i in 0..row.len() {
-        let (column, entry) = row.at(i);
-        if column != 0 && residue.goes_on {
-            residue.add(known, column, entry)?;
-        }
+    if let Err(stop) = residue.add_all(known, row) {
+        return Err(without(residue, stop));
     }
     if residue.is_cut() && is_new(known.facts, row, &residue) {
         plan.push(Action::Add(residue.multiples))
     } else {
+        drop(residue);
         Ok(())
     }
 }
@@ -115,9 +113,20 @@ impl Residue {
             kept: g,
             divisor: 0,
             constant: row.entry(0),
-            multiples: crate::rows::lone(alloc, place, 1)?,
+            multiples: lone(alloc, place, 1)?,
             goes_on: true,
         })
+    }
+
+    // Each column of the row in turn, until one has no bound.
+    fn add_all(&mut self, known: &Known<'_>, row: &Row) -> Result<(), Stop> {
+        for i in 0..row.len() {
+            let (column, entry) = row.at(i);
+            if column != 0 && self.goes_on {
+                self.add(known, column, entry)?;
+            }
+        }
+        Ok(())
     }
 
     // Leaves the column, or puts its bound in its place.

@@ -1,4 +1,6 @@
 //! What the guide keeps of an open node.
+use crate::plan::without;
+use crate::rows::column_count;
 use cf_close::{Fact, FactKind};
 use cf_linear::Row;
 use cf_simplex::{Simplex, Stop};
@@ -6,7 +8,7 @@ use std::alloc::Global;
 
 /// A column that an equation puts in terms of others: its entry there is 1 or -1, and it stands in no fact but
 /// this and earlier solved ones.
-#[derive(Clone, Copy, Debug, PartialEq, Eq)]
+#[derive(Clone, Copy)]
 pub(crate) struct Solved {
     pub column: u32,
     pub fact: usize,
@@ -16,7 +18,7 @@ pub(crate) struct Solved {
 const MOST_ROUNDS: u64 = 60;
 
 /// How a node behind a split begins.
-#[derive(Clone, Copy, Debug, PartialEq, Eq)]
+#[derive(Clone, Copy)]
 pub(crate) enum Start {
     /// With the rows of the point at which it was split.
     Warm,
@@ -58,11 +60,11 @@ impl Frame {
 
     /// An equal frame.
     pub(crate) fn try_copy(&self, alloc: Global) -> Result<Frame, Stop> {
-        let simplex = match &self.simplex {
-            Some(simplex) => Some(simplex.try_copy(alloc)?),
-            None => None,
-        };
         let solved = Vec::from_slice(alloc, &self.solved)?;
+        let simplex = match self.copy_simplex(alloc) {
+            Ok(simplex) => simplex,
+            Err(stop) => return Err(without(solved, stop)),
+        };
         Ok(Frame {
             solved,
             clean: self.clean,
@@ -72,6 +74,13 @@ impl Frame {
             simplex,
             added: self.added,
         })
+    }
+
+    fn copy_simplex(&self, alloc: Global) -> Result<Option<Simplex>, Stop> {
+        match &self.simplex {
+            Some(simplex) => Ok(Some(simplex.try_copy(alloc)?)),
+            None => Ok(None),
+        }
     }
 
     /// Has the frame be that of a node behind a split.
@@ -107,8 +116,7 @@ impl Frame {
 
     /// Whether the fact is an inequality with columns, or an equation that solves none.
     pub(crate) fn is_live(&self, fact: &Fact, place: usize) -> bool {
-        crate::rows::column_count(&fact.row) > 0
-            && (fact.kind == FactKind::Inequality || !self.solves(place))
+        column_count(&fact.row) > 0 && (fact.kind == FactKind::Inequality || !self.solves(place))
     }
 
     pub(crate) fn has_solved(&self, column: u32) -> bool {

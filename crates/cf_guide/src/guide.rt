@@ -35,6 +35,15 @@ pub enum Ending {
     GaveUp(Limit),
 }
 
+/// What comes next in a search.
+#[derive(Clone, Copy)]
+enum Next {
+    /// What was planned.
+    Planned,
+    /// Nothing: it ends.
+    Nothing,
+}
+
 /// A guide and what it has left to spend. Nothing of what it chooses is relied on.
 #[derive(Drop)]
 pub struct Finder {
@@ -74,11 +83,33 @@ impl Finder {
         ensures { IfOk result (λ o. o ≡ Closed → HasNone problem) }
     {
         let mut guide = self;
-        guide.frames.push(Frame::root(alloc))?;
-        let most = guide.limits.steps;
-        match close(alloc, problem, &mut guide, most) {
+        let answer = guide.answer(alloc, problem);
+        guide.outcome(answer)
+    }
+
+    // Has the problem closed, if it can.
+    fn answer(&mut self, alloc: Global, problem: Problem) -> Result<Answer, Fault>
+        ensures { IfOk result (λ a. a ≡ Answer.Closed → HasNone problem) }
+    {
+        match self.frames.push(Frame::root(alloc)) {
+            Ok(()) => {
+                let most = self.limits.steps;
+                close(alloc, problem, self, most)
+            }
+            Err(fault) => {
+                drop(problem);
+                Err(Fault::from(fault))
+            }
+        }
+    }
+
+    // What the answer of a search comes to.
+    fn outcome(self, answer: Result<Answer, Fault>) -> Result<Outcome, NoMemory>
+        ensures { IfOk result (λ o. o ≡ Closed → answer ≡ Ok Answer.Closed) }
+    {
+        match answer {
             Ok(Answer::Closed) => Ok(Outcome::Closed),
-            Ok(Answer::Open) => Ok(Outcome::Open(guide.ending)),
+            Ok(Answer::Open) => Ok(Outcome::Open(self.ending)),
             Err(Fault::NoMemory) => Err(NoMemory),
             Err(Fault::Past) => Ok(Outcome::Open(Ending::GaveUp(Limit::Past))),
             Err(Fault::Unfit) => Ok(Outcome::Open(Ending::GaveUp(Limit::Unfit))),
@@ -95,30 +126,29 @@ impl Finder {
 
     // Forgets the nodes that were left.
     fn keep_open(&mut self, waiting: usize) {
-        for _ in 0..self.frames.len() {
-            if self.frames.len() > waiting.saturating_add(1) {
-                self.frames.pop();
-                self.work.plan.clear();
-            }
+        let count = waiting.saturating_add(1);
+        if self.frames.len() > count {
+            self.frames.truncate(count);
+            self.work.plan.clear();
         }
     }
 
-    // Whether there is something to be done at the node, which is planned then, or the search ends.
-    fn plan(&mut self, alloc: Global, refutation: &Refutation) -> Result<bool, Stop> {
+    // Plans what is to be done at the node, if anything is.
+    fn plan(&mut self, alloc: Global, refutation: &Refutation) -> Result<Next, Stop> {
         let Some(frame) = self.frames.last_mut() else {
-            return Ok(false);
+            return Ok(Next::Nothing);
         };
         match plan_at(alloc, frame, &mut self.work, refutation)? {
             Some(split) => self.split(alloc, split),
             None => {
                 self.work.plan.turn();
-                Ok(true)
+                Ok(Next::Planned)
             }
         }
     }
 
     // Plans the split, or ends the search.
-    fn split(&mut self, alloc: Global, split: Split) -> Result<bool, Stop> {
+    fn split(&mut self, alloc: Global, split: Split) -> Result<Next, Stop> {
         match split {
             Split::Or(or, branch) => self.open(alloc, Action::SplitOr(or, branch), Start::Cold),
             Split::Warm(row) => self.open(alloc, Action::SplitRow(row), Start::Warm),
@@ -129,14 +159,14 @@ impl Finder {
     }
 
     // Plans the split, and keeps a frame for each of the two nodes.
-    fn open(&mut self, alloc: Global, action: Action, start: Start) -> Result<bool, Stop> {
+    fn open(&mut self, alloc: Global, action: Action, start: Start) -> Result<Next, Stop> {
         self.work.plan.push(action)?;
         if self.splits == 0 {
             return self.end(Ending::GaveUp(Limit::Splits(self.limits.splits)));
         }
         self.splits -= 1;
         let Some(frame) = self.frames.last_mut() else {
-            return Ok(false);
+            return Ok(Next::Nothing);
         };
         frame.descend(start);
         if frame.depth > MOST_DEPTH {
@@ -144,29 +174,38 @@ impl Finder {
         }
         let other = frame.try_copy(alloc)?;
         self.frames.push(other)?;
-        Ok(true)
+        Ok(Next::Planned)
     }
 
-    fn end(&mut self, ending: Ending) -> Result<bool, Stop> {
+    // The first action of a new plan, if there is something to be done.
+    fn first_planned(
+        &mut self,
+        alloc: Global,
+        refutation: &Refutation,
+    ) -> Result<Option<Action>, Fault> {
+        match self.plan(alloc, refutation) {
+            Ok(Next::Planned) => Ok(self.work.plan.take_last()),
+            Ok(Next::Nothing) => Ok(None),
+            Err(Stop::NoMemory) => Err(Fault::NoMemory),
+            Err(stop) => {
+                self.ending = Ending::GaveUp(self.limit_of(stop));
+                Ok(None)
+            }
+        }
+    }
+
+    fn end(&mut self, ending: Ending) -> Result<Next, Stop> {
         self.ending = ending;
-        Ok(false)
+        Ok(Next::Nothing)
     }
 }
 
 impl Guide for Finder {
     fn next(&mut self, alloc: Global, refutation: &Refutation) -> Result<Option<Action>, Fault> {
         self.keep_open(refutation.waiting());
-        if let Some(action) = self.work.plan.take_last() {
-            return Ok(Some(action));
-        }
-        match self.plan(alloc, refutation) {
-            Ok(true) => Ok(self.work.plan.take_last()),
-            Ok(false) => Ok(None),
-            Err(Stop::NoMemory) => Err(Fault::NoMemory),
-            Err(stop) => {
-                self.ending = Ending::GaveUp(self.limit_of(stop));
-                Ok(None)
-            }
+        match self.work.plan.take_last() {
+            Some(action) => Ok(Some(action)),
+            None => self.first_planned(alloc, refutation),
         }
     }
 }
@@ -212,8 +251,7 @@ fn simpler(
         settle_pairs(alloc, frame, facts, &mut work.plan)?;
     }
     if work.plan.is_empty() {
-        let cuts = frame.takes_cuts();
-        by_bounds(alloc, frame, cuts, work, refutation)?;
+        by_bounds(alloc, frame, work, refutation)?;
     }
     Ok(())
 }
@@ -221,11 +259,11 @@ fn simpler(
 // Cuts, if they are to be made, and what the bounds say of ors.
 fn by_bounds(
     alloc: Global,
-    frame: &Frame,
-    cuts: bool,
+    frame: &mut Frame,
     work: &mut Work,
     refutation: &Refutation,
 ) -> Result<(), Stop> {
+    let cuts = frame.takes_cuts();
     let facts = refutation.facts();
     let bounds = Bounds::of(alloc, facts, work.fresh)?;
     let known = Known::of(frame, facts, &bounds);
@@ -246,20 +284,35 @@ fn at_point(
     work: &mut Work,
     refutation: &Refutation,
 ) -> Result<Option<Split>, Stop> {
-    let Some(mut simplex) = frame.simplex.take() else {
-        return Ok(None);
-    };
+    match frame.simplex.take() {
+        Some(simplex) => {
+            let mut simplex = simplex;
+            let split = split_by(alloc, frame, &mut simplex, work, refutation);
+            frame.simplex = Some(simplex);
+            split
+        }
+        None => Ok(None),
+    }
+}
+
+// Refutes the node by rows that are in conflict, or tells what is to be split at a point of all rows.
+fn split_by(
+    alloc: Global,
+    frame: &mut Frame,
+    simplex: &mut Simplex,
+    work: &mut Work,
+    refutation: &Refutation,
+) -> Result<Option<Split>, Stop> {
     let facts = refutation.facts();
-    add_facts(alloc, frame, facts, &mut simplex, &mut work.effort)?;
+    add_facts(alloc, frame, facts, simplex, &mut work.effort)?;
     frame.added = facts.len();
     match simplex.search(alloc, &mut work.effort)? {
         Found::Conflict(parts) => {
-            work.plan.refute(alloc, multiples_of(alloc, &parts)?)?;
+            work.plan.refute(alloc, multiples_of(alloc, parts)?)?;
             Ok(None)
         }
         Found::Point => {
-            let split = split_at(alloc, frame, &simplex, work.fresh, refutation)?;
-            frame.simplex = Some(simplex);
+            let split = split_at(alloc, frame, simplex, work.fresh, refutation)?;
             Ok(Some(split))
         }
     }
@@ -304,9 +357,9 @@ fn add_facts(
     Ok(())
 }
 
-fn multiples_of(alloc: Global, parts: &[Part]) -> Result<Vec<Multiple>, Stop> {
+fn multiples_of(alloc: Global, parts: Vec<Part>) -> Result<Vec<Multiple>, Stop> {
     let mut multiples = Vec::new(alloc);
-    for part in parts {
+    for part in &parts {
         multiples.push(Multiple {
             fact: part.tag,
             factor: part.factor,

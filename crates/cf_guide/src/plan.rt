@@ -18,10 +18,8 @@ impl Plan {
 
     /// Adds an action to the end.
     pub(crate) fn push(&mut self, action: Action) -> Result<(), Stop> {
-        match self.actions.push(action) {
-            Ok(()) => Ok(()),
-            Err(_) => Err(Stop::NoMemory),
-        }
+        self.actions.push(action)?;
+        Ok(())
     }
 
     /// Puts an action in the place of all.
@@ -69,4 +67,9 @@ pub(crate) struct Work {
     pub effort: Effort,
     /// The first column that stands nowhere.
     pub fresh: u32,
+}
+
+/// The fault, when the value has been dropped.
+pub(crate) fn without<T: Drop>(_value: T, stop: Stop) -> Stop {
+    stop
 }

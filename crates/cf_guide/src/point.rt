@@ -1,6 +1,7 @@
 //! The values of all columns at a point of the rows, and what holds there.
 use crate::frame::{Frame, Solved};
 use crate::numbers::{sum_of, whole};
+use crate::plan::without;
 use cf_close::{Conjunction, Fact, FactKind, Or};
 use cf_linear::Row;
 use cf_simplex::{Ratio, Simplex, Stop, opposite};
@@ -21,16 +22,20 @@ impl Point {
         simplex: &Simplex,
         columns: u32,
     ) -> Result<Point, Stop> {
-        let mut values = Vec::new(alloc);
-        values.push(whole(1))?;
-        for column in 1..columns {
-            values.push(simplex.value(column)?)?;
-        }
+        let values = values_of(alloc, simplex, columns)?;
         let mut point = Point { values };
-        for solved in frame.solved.iter().rev() {
-            point.solve(facts, *solved)?;
+        match point.solve_all(facts, &frame.solved) {
+            Ok(()) => Ok(point),
+            Err(stop) => Err(without(point, stop)),
         }
-        Ok(point)
+    }
+
+    // Each solved column, the last first.
+    fn solve_all(&mut self, facts: &[Fact], columns: &[Solved]) -> Result<(), Stop> {
+        for i in 0..columns.len() {
+            self.solve(facts, columns[columns.len() - 1 - i])?;
+        }
+        Ok(())
     }
 
     fn solve(&mut self, facts: &[Fact], solved: Solved) -> Result<(), Stop> {
@@ -113,6 +118,16 @@ impl Point {
         }
         Ok(Some(all))
     }
+}
+
+// The values of the columns below the number, of which column 0 is 1.
+fn values_of(alloc: Global, simplex: &Simplex, columns: u32) -> Result<Vec<Ratio>, Stop> {
+    let mut values = Vec::new(alloc);
+    values.push(whole(1))?;
+    for column in 1..columns {
+        values.push(simplex.value(column)?)?;
+    }
+    Ok(values)
 }
 
 fn all_marked(marks: &[bool], ors: &[Or]) -> bool {

@@ -29,7 +29,7 @@ pub(crate) fn divisor(row: &Row) -> i128 {
 }
 
 /// How the columns of two rows compare, apart from the constant.
-#[derive(Clone, Copy, Debug, PartialEq, Eq)]
+#[derive(Clone, Copy)]
 pub(crate) enum Likeness {
     Same,
     Opposite,
@@ -41,23 +41,41 @@ pub(crate) fn compared(x: &Row, y: &Row) -> Likeness {
     if column_count(x) != column_count(y) {
         return Likeness::Other;
     }
-    if agree(x, y, 1) {
+    if are_same(x, y) {
         Likeness::Same
-    } else if agree(x, y, -1) {
+    } else if are_opposite(x, y) {
         Likeness::Opposite
     } else {
         Likeness::Other
     }
 }
 
-fn agree(x: &Row, y: &Row, sign: i128) -> bool {
+fn are_same(x: &Row, y: &Row) -> bool {
     for i in 0..x.len() {
         let (column, entry) = x.at(i);
-        if column != 0 && entry.checked_mul(sign) != Some(y.entry(column)) {
+        if column != 0 && entry != y.entry(column) {
             return false;
         }
     }
     true
+}
+
+fn are_opposite(x: &Row, y: &Row) -> bool {
+    for i in 0..x.len() {
+        let (column, entry) = x.at(i);
+        if column != 0 && !is_opposite(entry, y.entry(column)) {
+            return false;
+        }
+    }
+    true
+}
+
+/// Whether `a` is `-b`.
+pub(crate) fn is_opposite(a: i128, b: i128) -> bool {
+    match a.checked_neg() {
+        Some(k) => k == b,
+        None => false,
+    }
 }
 
 /// A fact with its factor.

@@ -37,17 +37,14 @@ pub(crate) fn choose(
     marks: &[bool],
     ors: &[Or],
 ) -> Result<Split, Stop> {
-    if let Some(or) = shortest(ors, marks, true) {
+    if let Some(or) = shortest(Candidates::Violated, ors, marks) {
         return Ok(Split::Or(or, 0));
     }
     let Some(fraction) = narrowest_fraction(frame, simplex, point)? else {
-        return Ok(match point.whole_values(alloc)? {
-            Some(values) => Split::Model(values),
-            None => return Err(Stop::Past),
-        });
+        return model(alloc, point);
     };
     if frame.fractions >= MOST_FRACTIONS {
-        if let Some(or) = shortest(ors, marks, false) {
+        if let Some(or) = shortest(Candidates::All, ors, marks) {
             return Ok(Split::Or(or, branch_at(ors, or, marks)));
         }
     }
@@ -64,11 +61,35 @@ pub(crate) fn choose(
     }
 }
 
-// The or with the fewest branches, of all or of those of which no branch holds.
-fn shortest(ors: &[Or], marks: &[bool], violated: bool) -> Option<usize> {
+fn model(alloc: Global, point: &Point) -> Result<Split, Stop> {
+    match point.whole_values(alloc)? {
+        Some(values) => Ok(Split::Model(values)),
+        None => Err(Stop::Past),
+    }
+}
+
+/// Which ors may be split.
+#[derive(Clone, Copy)]
+enum Candidates {
+    All,
+    /// Those of which no branch holds.
+    Violated,
+}
+
+impl Candidates {
+    fn include(self, marks: &[bool], or: &Or) -> bool {
+        match self {
+            Candidates::All => true,
+            Candidates::Violated => first_marked(marks, or).is_none(),
+        }
+    }
+}
+
+// The or with the fewest branches.
+fn shortest(candidates: Candidates, ors: &[Or], marks: &[bool]) -> Option<usize> {
     let mut best: Option<(usize, usize)> = None;
     for (place, or) in ors.iter().enumerate() {
-        if !violated || first_marked(marks, or).is_none() {
+        if candidates.include(marks, or) {
             best = Some(shorter(best, (place, or.branches().len())));
         }
     }
@@ -150,11 +171,11 @@ fn narrower(best: Option<Fraction>, new: Fraction) -> Fraction {
 // The side of the column's fraction that is nearer to 0.
 fn at_fraction(alloc: Global, column: u32, value: Ratio) -> Result<Row, Stop> {
     let down = quotient(value.numerator, value.denominator);
-    let lone = unit(alloc, column, 1)?;
     if down < 0 {
-        above(alloc, &lone, total(down, 1)?)
+        let least = total(down, 1)?;
+        above(alloc, &unit(alloc, column, 1)?, least)
     } else {
-        below(alloc, &lone, down)
+        below(alloc, &unit(alloc, column, 1)?, down)
     }
 }
 
@@ -172,12 +193,13 @@ fn below(alloc: Global, row: &Row, k: i128) -> Result<Row, Stop> {
 
 // The half of a range in which the point lies, first.
 fn halves(alloc: Global, simplex: &Simplex, span: Span) -> Result<Split, Stop> {
-    let row = simplex.row_of(alloc, span.variable)?;
     let middle = quotient(total(span.low, span.high)?, 2);
     let at = simplex.value_at(span.variable)?;
-    if at.numerator > product(middle, at.denominator)? {
-        Ok(Split::Cold(above(alloc, &row, total(middle, 1)?)?))
+    let row = if at.numerator > product(middle, at.denominator)? {
+        let least = total(middle, 1)?;
+        above(alloc, &simplex.row_of(alloc, span.variable)?, least)?
     } else {
-        Ok(Split::Cold(below(alloc, &row, middle)?))
-    }
+        below(alloc, &simplex.row_of(alloc, span.variable)?, middle)?
+    };
+    Ok(Split::Cold(row))
 }
