@@ -10,7 +10,7 @@ ghost use Rattle.cf_read.specs.Reading.{NeverHolds};
 
 use cf_choose::ChooseFault;
 use cf_guide::{Finder, Limits, Outcome};
-use cf_read::{Question, read};
+use cf_read::{RelationProblem, read};
 use cf_tree::{Base, Rel};
 use std::alloc::Global;
 
@@ -31,16 +31,16 @@ pub fn refute(
     ensures { IfOk result (λ o. o ≡ Closed → NeverHolds scope.now outputs.now (rel_tree rel.now)) }
 {
     match read(alloc, scope, outputs, rel) {
-        Ok(question) => answer(alloc, question, limits),
+        Ok(asked) => answer(alloc, asked, limits),
         Err(fault) => Err(fault),
     }
 }
 
-// What a search for a refutation of the question's problem finds.
-fn answer(alloc: Global, question: Question, limits: Limits) -> Result<Outcome, ChooseFault>
-    ensures { IfOk result (λ o. o ≡ Closed → HasNone question.problem) }
+// What a search for a refutation of the relation's problem finds.
+fn answer(alloc: Global, asked: RelationProblem, limits: Limits) -> Result<Outcome, ChooseFault>
+    ensures { IfOk result (λ o. o ≡ Closed → HasNone asked.problem) }
 {
-    let Question { problem, columns } = question;
+    let RelationProblem { problem, columns } = asked;
     match Finder::new(alloc, limits, columns).find(alloc, problem) {
         Ok(outcome) => Ok(outcome),
         Err(_) => Err(ChooseFault::NoMemory),
