@@ -1,0 +1,3 @@
+pub mod TermLists
+pub mod ReadsBack
+pub mod TermExamples
