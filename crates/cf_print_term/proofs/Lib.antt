@@ -1,3 +1,4 @@
 pub mod TermLists
+pub mod NumeralLists
 pub mod ReadsBack
 pub mod TermExamples

@@ -170,6 +170,11 @@ c_numerals : in_c (sum (num 2 ∷ num 3 ∷ [])) ≡ codes "add(2, 3, &past)"
 unfolding digits
 c_numerals = refl
 
+-- a sum of one part is that part, so two of numerals may pass as numerals do
+c_alone : in_c (sum (sum (num 2147483647 ∷ []) ∷ num 1 ∷ [])) ≡ codes "add(2147483647, 1, &past)"
+unfolding digits
+c_alone = refl
+
 c_long : in_c (num 2147483648) ≡ codes "2147483648LL"
 unfolding digits
 c_long = refl

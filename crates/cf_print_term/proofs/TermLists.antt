@@ -1,12 +1,11 @@
 -- Lists of terms.
 use Rattle.std.proofs.Common.{◌≡◌, Bool, true, false, ℕ, zero, suc, ◌+◌, ◌<◌, ◌≤◌, List, [], ◌∷◌, ◌++◌, map, length, drop, get_or, refl, sym, ap, subst, ◌∙◌, arith}
 use Rattle.std.proofs.Math.ListN.{drop_of_length-le}
-use Rattle.cf_tree.specs.CodeTree.{code_more}
 use Rattle.cf_tree.specs.CodeView.{code_tree, code_trees}
 use Rattle.cf_tree.specs.declared.code.Code.{Code}
-use Rattle.cf_print_term.specs.Terms.{Term as TermTree, Terms, call, no_terms, term_more, terms_of as list_terms}
+use Rattle.cf_print_term.specs.Terms.{Term as TermTree, Terms, word, call, no_terms, term_more}
 use Rattle.cf_print_term.specs.TermView.{term_tree, term_trees}
-use Rattle.cf_print_term.specs.Expressions.{Sight, applied_all, set_term, sum_behind, sum_of, term_of, terms_of}
+use Rattle.cf_print_term.specs.Expressions.{Sight, applied_all, is_one_small, set_term, sum_behind, sum_of, term_of, terms_of}
 use Rattle.cf_print_term.specs.Summing.{two_summed}
 use Rattle.cf_print_term.specs.declared.term.Term.{Term}
 use Rattle.cf_print_term.specs.declared.table.Call.{Call}
@@ -66,33 +65,49 @@ pub filled : (t : Table) (w : Sight) (cs : List Code) (ts : Terms) → 1 ≤ len
 filled t w [] ts h f = absurd (omega (arith, h))
 filled t w (c ∷ cs) ts h f = ap (call t.sets.of) f
 
--- two codes or more
-pub two_first : (cs : List Code) (a b : Code) → 2 ≤ length cs → a ≡ get_or cs 0 a → b ≡ get_or cs 1 b →
-    code_trees cs ≡ code_more (code_tree a) (code_more (code_tree b) (code_trees (drop 2 cs)))
-two_first [] a b h e f = absurd (omega (arith, h))
-two_first (c ∷ []) a b h e f = absurd (omega (arith, h))
-two_first (c ∷ d ∷ cs) a b h e f =
-    ap (λ x. code_more (code_tree x) (code_more (code_tree d) (code_trees cs))) (sym e) ∙
-    ap (λ y. code_more (code_tree a) (code_more (code_tree y) (code_trees cs))) (sym f)
-
 -- ---- sums
-pub sum_by_total : (t : Table) (w : Sight) (all : Terms) (cs : List Code) → 3 ≤ length cs →
-    sum_of t w true all (code_trees cs) ≡ call t.total all
-sum_by_total t w all [] h = absurd (omega (arith, h))
-sum_by_total t w all (c ∷ []) h = absurd (omega (arith, h))
-sum_by_total t w all (c ∷ d ∷ []) h = absurd (omega (arith, h))
-sum_by_total t w all (c ∷ d ∷ e ∷ cs) h = refl
 
-pub sum_goes_on : (t : Table) (w : Sight) (all : Terms) (cs : List Code) → 3 ≤ length cs →
-    sum_of t w false all (code_trees cs) ≡ sum_behind t w (two_summed t w false (code_trees cs)) (code_trees (drop 2 cs))
-sum_goes_on t w all [] h = absurd (omega (arith, h))
-sum_goes_on t w all (c ∷ []) h = absurd (omega (arith, h))
-sum_goes_on t w all (c ∷ d ∷ []) h = absurd (omega (arith, h))
-sum_goes_on t w all (c ∷ d ∷ e ∷ cs) h = refl
+-- one of two parts
+pub sum_of_two : (t : Table) (w : Sight) (passes : Bool) (all : Terms) (cs : List Code) → 2 ≤ length cs → length cs < 3 →
+    two_summed t w passes (code_trees cs) ≡ sum_of t w passes all (code_trees cs)
+sum_of_two t w passes all [] h g = absurd (omega (arith, h))
+sum_of_two t w passes all (c ∷ []) h g = absurd (omega (arith, h))
+sum_of_two t w passes all (c ∷ d ∷ []) h g = refl
+sum_of_two t w passes all (c ∷ d ∷ e ∷ cs) h g = absurd (omega (arith, g))
 
-pub sum_of_two : (t : Table) (w : Sight) (passes : Bool) (all : Terms) (cs : List Code) → length cs ≡ 2 →
-    sum_of t w passes all (code_trees cs) ≡ two_summed t w passes (code_trees cs)
-sum_of_two t w passes all [] h = absurd (omega (arith, h))
-sum_of_two t w passes all (c ∷ []) h = absurd (omega (arith, h))
-sum_of_two t w passes all (c ∷ d ∷ []) h = refl
-sum_of_two t w passes all (c ∷ d ∷ e ∷ cs) h = absurd (omega (arith, h))
+-- one of three parts or more, by a call on all of them
+by_total : (t : Table) (w : Sight) (all : Terms) (cs : List Code) → 3 ≤ length cs → call t.total all ≡ sum_of t w true all (code_trees cs)
+by_total t w all [] h = absurd (omega (arith, h))
+by_total t w all (c ∷ []) h = absurd (omega (arith, h))
+by_total t w all (c ∷ d ∷ []) h = absurd (omega (arith, h))
+by_total t w all (c ∷ d ∷ e ∷ cs) h = refl
+
+pub sum_by_total : (t : Table) (w : Sight) (passes : Bool) (all : Terms) (cs : List Code) → passes ≡ true → 3 ≤ length cs →
+    call t.total all ≡ sum_of t w passes all (code_trees cs)
+sum_by_total t w passes all cs e h = by_total t w all cs h ∙ ap (λ b. sum_of t w b all (code_trees cs)) (sym e)
+
+-- one of three parts or more, part by part
+by_parts : (t : Table) (w : Sight) (all : Terms) (cs : List Code) → 3 ≤ length cs →
+    sum_behind t w (two_summed t w false (code_trees cs)) (code_trees (drop 2 cs)) ≡ sum_of t w false all (code_trees cs)
+by_parts t w all [] h = absurd (omega (arith, h))
+by_parts t w all (c ∷ []) h = absurd (omega (arith, h))
+by_parts t w all (c ∷ d ∷ []) h = absurd (omega (arith, h))
+by_parts t w all (c ∷ d ∷ e ∷ cs) h = refl
+
+pub sum_by_parts : (t : Table) (w : Sight) (passes : Bool) (all : Terms) (cs : List Code) (start : TermTree) → passes ≡ false → 3 ≤ length cs →
+    start ≡ two_summed t w false (code_trees cs) →
+    sum_behind t w start (code_trees (drop 2 cs)) ≡ sum_of t w passes all (code_trees cs)
+sum_by_parts t w passes all cs start e h f =
+    ap (λ s. sum_behind t w s (code_trees (drop 2 cs))) f ∙ by_parts t w all cs h ∙ ap (λ b. sum_of t w b all (code_trees cs)) (sym e)
+
+-- there are no two parts
+pub none_summed : (t : Table) (w : Sight) (passes : Bool) (cs : List Code) → length cs < 2 → word [] ≡ two_summed t w passes (code_trees cs)
+none_summed t w passes [] h = refl
+none_summed t w passes (c ∷ []) h = refl
+none_summed t w passes (c ∷ d ∷ cs) h = absurd (omega (arith, h))
+
+-- two parts or more are not printed as a numeral
+pub more_than_one : (cs : List Code) → 2 ≤ length cs → false ≡ is_one_small (code_trees cs)
+more_than_one [] h = absurd (omega (arith, h))
+more_than_one (c ∷ []) h = absurd (omega (arith, h))
+more_than_one (c ∷ d ∷ cs) h = refl

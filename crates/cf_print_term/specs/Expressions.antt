@@ -150,13 +150,23 @@ opposites s (Some a) (Some b) = Some (between s a b)
 -- ---- expressions
 
 -- an expression of numerals alone, which a typed language takes for a small number
-abbrev pub is_small : CodeTree → Bool
-is_small (code_lit k) = true
-is_small (code_neg a) = is_small a
-is_small (code_div a k) = is_small a
-is_small (code_mod a k) = is_small a
-is_small (code_if t a b) = is_small a && is_small b
-is_small c = false
+abbrev mutual
+  pub is_small : CodeTree → Bool
+  is_small (code_lit k) = true
+  is_small (code_neg a) = is_small a
+  is_small (code_div a k) = is_small a
+  is_small (code_mod a k) = is_small a
+  is_small (code_sum cs) = is_one_small cs
+  is_small (code_min cs) = is_one_small cs
+  is_small (code_max cs) = is_one_small cs
+  is_small (code_if t a b) = is_small a && is_small b
+  is_small c = false
+
+  -- parts that are printed as a numeral: none, or one that is such an expression
+  pub is_one_small : CodeTrees → Bool
+  is_one_small no_codes = true
+  is_one_small (code_more c no_codes) = is_small c
+  is_one_small (code_more c (code_more d cs)) = false
 
 abbrev pub both_small : Table → CodeTree → CodeTree → Bool
 both_small t a b = t.is_typed && (is_small a && is_small b)

@@ -8,7 +8,7 @@ ghost use Rattle.cf_range.specs.CodeRanges.{may_pass, range_of};
 ghost use Rattle.cf_print_term.specs.Terms.{word, before, between, call};
 ghost use Rattle.cf_print_term.specs.TermView.{term_tree, term_trees};
 ghost use Rattle.cf_print_term.specs.Summing.{two_summed, one_summed};
-ghost use Rattle.cf_print_term.specs.Expressions.{base_of as base, is_small, both_small, is_natural, below_zero, product as product_of, applied as applied_of, comparison as comparison_of, literal as literal_of, difference as difference_of, applied_on, applied_all, set_term, term_of as term, terms_of, opposite_of, opposites, below_of, sum_of, sum_behind, denied as denied_of, divided_term, division as division_of, form_of as form};
+ghost use Rattle.cf_print_term.specs.Expressions.{base_of as base, is_small, is_one_small, both_small, is_natural, below_zero, product as product_of, applied as applied_of, comparison as comparison_of, literal as literal_of, difference as difference_of, applied_on, applied_all, set_term, term_of as term, terms_of, opposite_of, opposites, below_of, sum_of, sum_behind, denied as denied_of, divided_term, division as division_of, form_of as form};
 
 use crate::build::{
     applied, before, between, call_on_all, call_on_one, call_on_three, call_on_two, chosen,
@@ -100,7 +100,20 @@ fn is_small(code: &Code) -> bool
     match code {
         Code::Lit(_) => true,
         Code::Neg(a) | Code::Div { of: a, .. } | Code::Mod { of: a, .. } => is_small(a),
+        Code::Sum(parts) | Code::Min(parts) | Code::Max(parts) => is_one_small(parts),
         Code::If { yes, no, .. } => is_small(yes) && is_small(no),
+        _ => false,
+    }
+}
+
+// Whether parts are none, or one of numerals alone.
+#[cycle(is_small)]
+fn is_one_small(parts: &[Code]) -> bool
+    ensures { result ≡ is_one_small (code_trees parts.now) }
+{
+    match parts {
+        [] => true,
+        [only] => is_small(only),
         _ => false,
     }
 }

@@ -2,14 +2,12 @@
 ghost use Rattle.std.specs.Prelude.{◌≡◌, ◌++◌, OnOk, IfOk, decimal};
 ghost use Rattle.cf_print_term.specs.Terms.{word};
 ghost use Rattle.cf_print_term.specs.TermView.{term_tree};
-ghost use Rattle.cf_print_term.specs.Expressions.{both_halves, numeral, halves, literal as literal_of, digits as digits_of};
+ghost use Rattle.cf_print_term.specs.Expressions.{numeral, halves, literal as literal_of, digits as digits_of};
 
 use crate::build::before;
 use crate::table::{Numerals, Table};
 use crate::term::Term;
-use cf_print::put_pieces;
 use cf_tree::{NoMemory, Text, put_number};
-use itoa::Buffer;
 use std::alloc::Global;
 
 /// The first number past `int`.
@@ -34,28 +32,12 @@ fn put_count(out: &mut Vec<u8>, number: u128) -> Result<(), NoMemory>
 fn put_halves(out: &mut Vec<u8>, number: u128) -> Result<(), NoMemory>
     ensures { OnOk result (out.new.items ≡ out.old.items ++ halves number) }
 {
-    let mut high = Buffer::new();
-    let mut low = Buffer::new();
-    put_both(
-        out,
-        high.format(number / HALF).as_bytes(),
-        low.format(number % HALF).as_bytes(),
-    )
-}
-
-fn put_both<'x>(out: &mut Vec<u8>, high: &'x [u8], low: &'x [u8]) -> Result<(), NoMemory>
-    ensures { OnOk result (out.new.items ≡ out.old.items ++ both_halves high.now low.now) }
-{
-    put_pieces(
-        out,
-        &[
-            b"from_halves(".as_slice(),
-            high,
-            b", ".as_slice(),
-            low,
-            b"ULL)".as_slice(),
-        ],
-    )
+    out.extend_from_slice(b"from_halves(")?;
+    put_count(out, number / HALF)?;
+    out.extend_from_slice(b", ")?;
+    put_count(out, number % HALF)?;
+    out.extend_from_slice(b"ULL)")?;
+    Ok(())
 }
 
 // A number that is not negative.
