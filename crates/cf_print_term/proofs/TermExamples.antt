@@ -1,5 +1,5 @@
--- Worked examples of printed expressions, in Python and in C.
-use Rattle.std.specs.Prelude.{ℕ, pos, negsuc, ◌≡◌, false, List, [], ◌∷◌, refl, codes}
+-- Worked examples of printed expressions in each language.
+use Rattle.std.specs.Prelude.{ℕ, pos, negsuc, ◌≡◌, true, false, List, [], ◌∷◌, refl, codes}
 use Rattle.std.specs.Fmt.{digits}
 use Rattle.cf_tree.specs.declared.base.Base.TheVariants.{Int, Bool as Truth, Set}
 use Rattle.cf_tree.specs.declared.base.Order.TheVariants.{Eq, Le, Ge}
@@ -7,7 +7,7 @@ use Rattle.cf_tree.specs.CodeTree.{CodeTree, code_lit, code_truth, code_var, cod
 use Rattle.cf_range.specs.Ranges.{whole, between as from_to}
 use Rattle.cf_print_term.specs.Terms.{text}
 use Rattle.cf_print_term.specs.Expressions.{Sight, term_of}
-use Rattle.cf_print_term.specs.declared.table.TheConstants.{PYTHON, C as C_TABLE}
+use Rattle.cf_print_term.specs.declared.table.TheConstants.{PYTHON, C as C_TABLE, JAVASCRIPT}
 
 abbrev var : ℕ → CodeTree
 var x = code_var x
@@ -31,6 +31,9 @@ python c = text (term_of PYTHON known c)
 
 abbrev in_c : CodeTree → List ℕ
 in_c c = text (term_of C_TABLE known c)
+
+abbrev in_js : CodeTree → List ℕ
+in_js c = text (term_of JAVASCRIPT known c)
 
 -- ---- numbers
 
@@ -99,6 +102,11 @@ greatest = refl
 comparison : python (code_compare Le (var 0) (code_if (var 2) (num 1) (num 2))) ≡ codes "x <= (1 if p else 2)"
 unfolding digits
 comparison = refl
+
+comparisons : python (code_compare Eq (code_compare Le (var 0) (var 1)) (code_compare Eq (var 2) (code_truth false))) ≡
+    codes "(x <= y) == (p == False)"
+unfolding digits
+comparisons = refl
 
 divides : python (code_divides (pos 4) (sum (var 1 ∷ num 1 ∷ []))) ≡ codes "(y + 1) % 4 == 0"
 unfolding digits
@@ -206,3 +214,58 @@ c_mixed = refl
 c_choice : in_c (code_if (var 2) (num 1) (var 1)) ≡ codes "p ? 1 : y"
 unfolding digits
 c_choice = refl
+
+-- ---- JavaScript
+
+js_sum : in_js (sum (var 0 ∷ var 1 ∷ [])) ≡ codes "fit(x + y)"
+unfolding digits
+js_sum = refl
+
+js_total : in_js (sum (var 0 ∷ code_neg (var 1) ∷ num 1 ∷ [])) ≡ codes "total(x, -y, 1n)"
+unfolding digits
+js_total = refl
+
+js_difference : in_js (code_sub (var 1) (code_sub (num 1) (var 1))) ≡ codes "y - (1n - y)"
+unfolding digits
+js_difference = refl
+
+js_negations : in_js (code_neg (code_neg (var 1))) ≡ codes "-(-y)"
+unfolding digits
+js_negations = refl
+
+js_quotients : in_js (code_div (code_mod (var 1) (pos 7)) (pos 60)) ≡ codes "y % 7n / 60n"
+unfolding digits
+js_quotients = refl
+
+js_down : in_js (code_mod (code_div (var 0) (pos 60)) (pos 7)) ≡ codes "mod(div(x, 60n), 7n)"
+unfolding digits
+js_down = refl
+
+js_least : in_js (code_min (codes_of (var 0 ∷ num 3 ∷ var 1 ∷ []))) ≡ codes "least(x, 3n, y)"
+unfolding digits
+js_least = refl
+
+js_divides : in_js (code_not (code_and (code_divides (pos 4) (var 0)) (code_compare Eq (var 1) (num 0)))) ≡ codes "x % 4n !== 0n || y !== 0n"
+unfolding digits
+js_divides = refl
+
+js_mixed : in_js (code_and (code_or (var 2) (code_truth false)) (code_not (var 2))) ≡ codes "(p || false) && !p"
+unfolding digits
+js_mixed = refl
+
+js_choice : in_js (code_if (code_if (var 2) (var 2) (code_truth true)) (num 1) (sum (var 1 ∷ num 1 ∷ []))) ≡ codes "(p ? p : true) ? 1n : y + 1n"
+unfolding digits
+js_choice = refl
+
+js_sets : in_js (code_diff (code_union (codes_of (var 3 ∷ var 4 ∷ []))) (code_set_of (codes_of (num 1 ∷ var 0 ∷ [])))) ≡ codes
+    "diff(union(s, u), set_of(1n, x))"
+unfolding digits
+js_sets = refl
+
+js_sets_differ : in_js (code_not (code_compare Eq (var 3) (code_set_of (codes_of [])))) ≡ codes "!same(s, new Set())"
+unfolding digits
+js_sets_differ = refl
+
+js_subset : in_js (code_not (code_subset (var 3) (var 4))) ≡ codes "!subset(s, u)"
+unfolding digits
+js_subset = refl
