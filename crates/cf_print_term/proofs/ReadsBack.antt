@@ -1,8 +1,8 @@
 -- The reader finds each term again in its tokens.
-use Rattle.std.proofs.Common.{◌≡◌, ℕ, suc, ◌+◌, ◌≤◌, nat_le, nat_eq, Bool, true, false, ◌||◌, ◌&&◌, List, [], ◌∷◌, ◌++◌, codes, refl, sym, ap, subst, ◌∙◌, arith, append_assoc, append-nil, if◌then◌else◌}
+use Rattle.std.proofs.Common.{◌≡◌, ℕ, suc, ◌≤◌, nat_le, nat_eq, Bool, true, false, ◌||◌, ◌&&◌, List, [], ◌∷◌, ◌++◌, codes, refl, ap, ◌∙◌, arith, append_assoc, append-nil, if◌then◌else◌}
 use Rattle.std.proofs.lemmas.Bool.Decides.{nat_tests}
-use Rattle.cf_print_term.specs.Terms.{Term, Terms, word, before, between, call, choice, no_terms, term_more, text, listed, more_listed, enclosed, level, is_tight, is_left_of, asked, asked_in_choice}
-use Rattle.cf_print_term.specs.Reading.{Token, a_word, sign_before, sign_between, opened, closed, call_opened, comma, call_closed, first_of, second_of, spelled, enclosed_tokens, tokens, list_tokens, more_tokens, Waiting, before_waits, between_waits, opened_waits, call_waits, first_waits, second_waits, State, behind, at_part, stuck, taken_in, settled, sign_behind, close, next_argument, in_order, end_call, first_behind, second_behind, empty_call, run, TextReadsBack}
+use Rattle.cf_print_term.specs.Terms.{Term, Terms, word, before, between, call, choice, no_terms, term_more, text, listed, more_listed, enclosed, level, is_tight, is_left_of, asked}
+use Rattle.cf_print_term.specs.Reading.{Token, sign_between, closed, first_of, second_of, spelled, enclosed_tokens, tokens, list_tokens, more_tokens, Waiting, before_waits, between_waits, opened_waits, call_waits, first_waits, second_waits, State, behind, at_part, stuck, taken_in, settled, sign_behind, close, next_argument, in_order, end_call, first_behind, second_behind, empty_call, run, TextReadsBack}
 use Rattle.cf_print_term.specs.Marks.{mark_text}
 use Rattle.cf_print_term.specs.declared.table.Sign.{Sign}
 use Rattle.cf_print_term.specs.declared.table.Call.{Call}

@@ -12,7 +12,6 @@ use Rattle.cf_range.specs.declared.range.Range.{Range}
 use Rattle.cf_print_term.specs.Terms.{Term, Terms, word, before, between, call, choice, no_terms, term_more}
 use Rattle.cf_print_term.specs.Marks.{mark_text}
 use Rattle.cf_print_term.specs.declared.table.Sign.{Sign}
-use Rattle.cf_print_term.specs.declared.table.Call.{Call}
 use Rattle.cf_print_term.specs.declared.table.Choice.{Choice}
 use Rattle.cf_print_term.specs.declared.table.Form.{Form}
 use Rattle.cf_print_term.specs.declared.table.Form.TheVariants.{Signed, Fitted, Called, Nested}

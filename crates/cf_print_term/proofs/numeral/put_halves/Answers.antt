@@ -1,4 +1,3 @@
-use Rattle.std.proofs.Common.{◌≡◌}
 use Rattle.cf_print_term.proofs.NumeralLists.{halves_put}
 use Rattle.cf_print_term.proofs.numeral.put_halves.Goals as goal
 
