@@ -1,12 +1,12 @@
 -- What a block comes to, as its form shows.
-use Rattle.std.specs.Prelude.{ℕ, zero, suc, Bool, true, false, ◌&&◌, ◌||◌, List, [], ◌∷◌, ◌++◌, map, take, length, Option, Some, None, nat_eq, is_some, if◌then◌else◌}
+use Rattle.std.specs.Prelude.{ℕ, suc, Bool, true, false, ◌&&◌, ◌||◌, List, [], ◌∷◌, ◌++◌, map, take, length, Option, Some, None, nat_eq, is_some, if◌then◌else◌}
 use Rattle.cf_tree.specs.declared.base.Base.{Base}
 use Rattle.cf_tree.specs.declared.base.Base.TheVariants.{Int}
 use Rattle.cf_tree.specs.CodeTree.{CodeTree, code_lit, code_truth, code_var, code_set_of, code_tuple, code_sum, code_sub, code_mul, code_neg, code_div, code_mod, code_min, code_max, code_compare, code_divides, code_and, code_or, code_not, code_union, code_inter, code_diff, code_subset, code_card, code_slice, code_fresh, code_if, code_let, code_solve, CodeTrees, no_codes, code_more}
 use Rattle.cf_stmt.specs.Blocks.{Block, give, none, leave, bind, part, join, test, arm}
 use Rattle.cf_print_term.specs.Expressions.{base_of}
 use Rattle.cf_print_shape.specs.declared.exit.Exit.{Exit}
-use Rattle.cf_print_shape.specs.declared.exit.Exit.TheVariants.{Falls, GoesOn, Ends}
+use Rattle.cf_print_shape.specs.declared.exit.Exit.TheVariants.{GoesOn, Ends}
 
 -- the number of a block of arms, and 0 of any other
 abbrev pub number_of : Block → ℕ

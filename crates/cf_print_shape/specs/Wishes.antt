@@ -1,6 +1,6 @@
 -- At which place a block gives a variable: so it may have the name of that output.
 use Rattle.std.specs.Prelude.{ℕ, suc, Bool, false, nat_eq, Option, Some, None, if◌then◌else◌}
-use Rattle.cf_tree.specs.CodeTree.{CodeTree, code_lit, code_truth, code_var, code_set_of, code_tuple, code_sum, code_sub, code_mul, code_neg, code_div, code_mod, code_min, code_max, code_compare, code_divides, code_and, code_or, code_not, code_union, code_inter, code_diff, code_subset, code_card, code_slice, code_fresh, code_if, code_let, code_solve, CodeTrees, no_codes, code_more}
+use Rattle.cf_tree.specs.CodeTree.{CodeTree, code_var, code_tuple, CodeTrees, no_codes, code_more}
 use Rattle.cf_stmt.specs.Blocks.{Block, give, none, leave, bind, part, join, test, arm}
 
 abbrev pub is_level : CodeTree → ℕ → Bool
