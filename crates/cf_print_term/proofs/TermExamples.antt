@@ -178,8 +178,8 @@ c_numerals : in_c (sum (num 2 ∷ num 3 ∷ [])) ≡ codes "add(2, 3, &past)"
 unfolding digits
 c_numerals = refl
 
--- a sum of one part is that part, so two of numerals may pass as numerals do
-c_alone : in_c (sum (sum (num 2147483647 ∷ []) ∷ num 1 ∷ [])) ≡ codes "add(2147483647, 1, &past)"
+-- the least of one part is that part, so a sum of two numerals may pass as numerals do
+c_alone : in_c (sum (code_min (codes_of (num 2147483647 ∷ [])) ∷ num 1 ∷ [])) ≡ codes "add(2147483647, 1, &past)"
 unfolding digits
 c_alone = refl
 
