@@ -34,6 +34,7 @@ with_quotients text =
     with_helper (codes "div_down(") DIV_DOWN.now
     (with_helper (codes "mod_up(") MOD_UP.now (with_helper (codes "least(") LEAST.now (with_helper (codes "greatest(") GREATEST.now text)))
 
+-- the macro that a text calls
 abbrev pub with_definitions : List ℕ → List ℕ
 with_definitions text =
     with_helper (codes "from_halves(") HALVES.now text
@@ -41,10 +42,12 @@ with_definitions text =
 abbrev pub with_helpers : List ℕ → List ℕ
 with_helpers text = with_sums (with_quotients text)
 
+-- the status that tells of no solution
 abbrev pub status_text : List ℕ → List ℕ
 status_text [] = codes "Status N"
 status_text (n ∷ ns) = if nat_eq (length ns) 0 then codes "Status " ++ decimal n else codes "Status N"
 
+-- a number is past where this holds: the other side of the limit is its type's end
 abbrev pub below_text : List ℕ → Base → List (List ℕ)
 below_text x Int = (x ++ codes " < -MAX") ∷ []
 below_text x Truth = []
@@ -54,12 +57,13 @@ abbrev pub below_texts : List (List ℕ) → List Base → List (List ℕ)
 below_texts (x ∷ xs) (b ∷ bs) = below_text x b ++ below_texts xs bs
 below_texts _ _ = []
 
+-- the check of all arguments
 abbrev pub checks : List (List ℕ) → List ℕ
 checks tests =
     if nat_eq (length tests) 0 then []
     else concat (codes "    if (" ∷ joined (codes " || ") tests ∷ RETURN_PAST.now ∷ [])
 
--- a line for each variable of C that no statement reads
+-- a line for each variable that no statement reads
 abbrev pub all_unread : List (List ℕ) → List ℕ
 all_unread [] = []
 all_unread (x ∷ xs) = unread_lines C 1 x ++ all_unread xs
@@ -85,7 +89,7 @@ beginning is_filter f = beginning_by is_filter (first_line f) (checks (below_tex
 abbrev pub opening : Bool → Called → List ℕ
 opening is_filter f = comment f ++ beginning is_filter f
 
--- what C takes from the library: a filter reads and writes, and compares with the words of truth values
+-- what is taken from the library: a filter reads and writes, and compares with the words of truth values
 unfoldable pub includes_by : Bool → Bool → List ℕ
 includes_by is_filter compares =
     concat (when is_filter POSIX.now ∷ STANDARD.now ∷ when is_filter INCLUDES.now ∷ when compares STRING.now ∷ NUMBERS.now ∷ [])
@@ -93,7 +97,7 @@ includes_by is_filter compares =
 abbrev pub includes : Bool → List Base → List ℕ
 includes is_filter bs = includes_by is_filter (is_filter && list_any is_truth bs)
 
--- in C the variables of a reply: p0, p1, .. and o0, o1, .., where none of these is the name of the function
+-- the variables of a reply: p0, p1, .. and o0, o1, .., where none of these is the name of the function
 abbrev pub numbers_a_value : List ℕ → Bool
 numbers_a_value name = is_numbered (codes "p") name || is_numbered (codes "o") name
 
@@ -175,13 +179,15 @@ abbrev pub filter : Called → List ℕ
 filter f =
     filter_by f.name (reply_names f.name (codes "p") 0 f.bases) f.bases (reply_names f.name (codes "o") 0 f.results) f.results
 
--- in a file of C that is no filter the function has a prototype
+-- in a file that is no filter the function has a prototype
 abbrev pub prototype : Bool → Called → List ℕ
 prototype wanted f = when wanted (first_line f ++ codes ";\n\n")
 
+-- what stands behind the type of numbers
 abbrev pub body : Bool → Called → List ℕ → List ℕ
 body has_main f text = with_definitions ((STATUS.now ++ prototype (not has_main) f) ++ with_helpers text)
 
+-- the file around functions, and what stands behind them
 abbrev pub around : Bool → List ℕ → Called → List ℕ → List ℕ
 around has_main source f text = (head_of C source ++ includes has_main f.bases) ++ body has_main f text
 

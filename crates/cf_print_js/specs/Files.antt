@@ -41,7 +41,7 @@ with_parts text =
 abbrev pub with_helpers : List ℕ → List ℕ
 with_helpers text = with_numbers (with_arguments (with_operations (with_sets (with_parts text))))
 
--- what a caller of JavaScript gives: any iterable for a set
+-- what a caller gives: any iterable for a set
 abbrev pub given_base : Base → List ℕ
 given_base Int = base_text JavaScript Int
 given_base Truth = base_text JavaScript Truth
@@ -82,7 +82,7 @@ comment f =
 abbrev pub opening : Called → List ℕ
 opening f = concat (comment f ∷ first_line f ∷ checks f.params f.bases ∷ [])
 
--- in JavaScript, on the values of a line
+-- what a reply holds, on the values of a line
 abbrev pub reply : List ℕ → List Base → List ℕ
 reply name bs =
     if nat_eq (length bs) 1 then concat (codes "written(" ∷ name ∷ codes "(...values))" ∷ [])
@@ -94,6 +94,7 @@ filter_by line reply = concat (FILTER.now ∷ line ∷ REPLY.now ∷ reply ∷ F
 abbrev pub filter : Called → List ℕ
 filter f = filter_by (line_text f.bases) (reply f.name f.results)
 
+-- the file around functions, and what stands behind them
 abbrev pub around : List ℕ → List ℕ → List ℕ
 around source text = head_of JavaScript source ++ with_helpers text
 

@@ -88,8 +88,8 @@ fn put_checks(out: &mut Vec<u8>, names: &[Text], bases: &[Base]) -> Result<(), N
     Ok(())
 }
 
-/// Its first line.
-pub(crate) fn first_line_of(alloc: Global, function: &Called) -> Result<Text, NoMemory>
+// Its first line.
+fn first_line_of(alloc: Global, function: &Called) -> Result<Text, NoMemory>
     ensures { IfOk result (λ t. t ≡ first_line function.now) }
 {
     let params = all_parameters(

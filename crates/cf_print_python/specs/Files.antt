@@ -26,7 +26,7 @@ with_arguments text =
 abbrev pub with_helpers : List ℕ → List ℕ
 with_helpers text = with_numbers (with_arguments text)
 
--- the check of an argument; that of a number in C is a part of the condition of one guard
+-- the check of an argument
 abbrev pub check : List ℕ → Base → List ℕ
 check x Int = concat (codes "    whole(" ∷ x ∷ codes ")\n" ∷ [])
 check x Truth = concat (codes "    truth(" ∷ x ∷ codes ")\n" ∷ [])
@@ -36,7 +36,7 @@ abbrev pub checks : List (List ℕ) → List Base → List ℕ
 checks (x ∷ xs) (b ∷ bs) = check x b ++ checks xs bs
 checks _ _ = []
 
--- parameters as callers see them: of Python, any iterable for a set
+-- parameters as callers see them: any iterable for a set
 abbrev pub called_parameter : List ℕ → Base → List ℕ
 called_parameter x Set = x ++ codes ": Iterable[int]"
 called_parameter x Int = parameter_text Python x Int
@@ -68,7 +68,7 @@ filter_by line name reply = concat (FILTER.now ∷ line ∷ REPLY.now ∷ name �
 abbrev pub filter : Called → List ℕ
 filter f = filter_by (line_text f.bases) f.name (reply f.results)
 
--- the file of a function, whose text this is with that of those before it
+-- the file around functions, and what stands behind them
 abbrev pub around : Bool → List ℕ → List ℕ → List ℕ
 around has_main source text = (head_of Python source ++ when has_main IMPORTS.now) ++ with_helpers text
 

@@ -75,8 +75,8 @@ fn called_parameters(alloc: Global, names: &[Text], bases: &[Base]) -> Result<Ve
     Ok(all)
 }
 
-/// Its first line.
-pub(crate) fn first_line_of(alloc: Global, function: &Called) -> Result<Text, NoMemory>
+// Its first line.
+fn first_line_of(alloc: Global, function: &Called) -> Result<Text, NoMemory>
     ensures { IfOk result (λ t. t ≡ first_line function.now) }
 {
     let params = called_parameters(alloc, &function.params, &function.bases)?;
