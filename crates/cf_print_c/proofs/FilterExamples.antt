@@ -2,7 +2,7 @@
 use Rattle.std.specs.Prelude.{◌≡◌, true, false, [], ◌∷◌, codes, refl}
 use Rattle.std.specs.Fmt.{digits}
 use Rattle.cf_tree.specs.declared.base.Base.TheVariants.{Int, Bool as Truth}
-use Rattle.cf_print_c.specs.Files.{reply_names, declared_lines, reads, call, writes, includes}
+use Rattle.cf_print_c.specs.Files.{reply_names, declared_lines, reads, call, call_by, writes, includes, includes_by}
 
 variables : declared_lines (reply_names (codes "f") (codes "p") 0 (Int ∷ Truth ∷ [])) (Int ∷ Truth ∷ []) ≡
     codes "    whole p0 = 0;\n    bool p1 = 0;\n"
@@ -19,6 +19,7 @@ two_reads : reads true (codes "p0" ∷ codes "p1" ∷ []) (Int ∷ Truth ∷ [])
 two_reads = refl
 
 one_call : call (codes "f") (codes "p0" ∷ []) (codes "o0" ∷ codes "o1" ∷ []) ≡ codes "f(p0, &o0, &o1)"
+unfolding call call_by
 one_call = refl
 
 two_writes : writes true (codes "o0" ∷ codes "o1" ∷ []) (Int ∷ Truth ∷ []) ≡
@@ -27,8 +28,10 @@ two_writes = refl
 
 file_includes : includes false (Truth ∷ []) ≡
     codes "#include <stdbool.h>\n#include <stdint.h>\n\n__extension__ typedef __int128 whole;\n\n#define MAX ((((whole)1 << 126) - 1) * 2 + 1) /* 2^127 - 1 */\n"
+unfolding includes_by
 file_includes = refl
 
 filter_includes : includes true (Int ∷ Truth ∷ []) ≡
     codes "#define _POSIX_C_SOURCE 200809L\n#include <stdbool.h>\n#include <stdint.h>\n#include <stdio.h>\n#include <stdlib.h>\n#include <string.h>\n\n__extension__ typedef __int128 whole;\n\n#define MAX ((((whole)1 << 126) - 1) * 2 + 1) /* 2^127 - 1 */\n"
+unfolding includes_by
 filter_includes = refl

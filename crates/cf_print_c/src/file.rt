@@ -1,6 +1,6 @@
 //! Whole files.
 ghost use Rattle.std.specs.Prelude.{◌≡◌, ◌++◌, IfOk};
-ghost use Rattle.cf_print_c.specs.Files.{file, filter, around, includes as includes_of, body as body_of, prototype as prototype_of};
+ghost use Rattle.cf_print_c.specs.Files.{file, filter, around, includes as includes_of, includes_by, body as body_of, prototype as prototype_of};
 ghost use Rattle.cf_print.specs.Helpers.{when as text_when};
 
 use crate::filter::{filter_of, has_truths};
@@ -16,7 +16,13 @@ use std::alloc::Global;
 fn includes(alloc: Global, is_filter: bool, bases: &[Base]) -> Result<Text, NoMemory>
     ensures { IfOk result (λ t. t ≡ includes_of is_filter bases.now) }
 {
-    let compares = is_filter && has_truths(bases);
+    includes_with(alloc, is_filter, is_filter && has_truths(bases))
+}
+
+#[tactic(auto, unfolding(crate::specs::Files::includes_by))]
+fn includes_with(alloc: Global, is_filter: bool, compares: bool) -> Result<Text, NoMemory>
+    ensures { IfOk result (λ t. t ≡ includes_by is_filter compares) }
+{
     text_of_pieces(
         alloc,
         &[

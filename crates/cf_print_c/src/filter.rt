@@ -1,10 +1,10 @@
 //! What makes a file a filter of lines.
 ghost use Rattle.std.specs.Prelude.{◌≡◌, ◌++◌, codes, map, true, IfOk, OnOk};
 ghost use Rattle.std.specs.List.{list_any};
-ghost use Rattle.cf_print_c.specs.Files.{call as call_of, declared_lines as declared_all, declared_line as one_declared, filter, gap as gap_of, read_one, reader as reader_of, readers as readers_of, reads as reads_all, space as space_of, writes as writes_all, written as written_one, is_number as is_number_base, is_truth as is_truth_base, numbers_a_value as numbers_value, reply_name as name_in_reply, reply_names as names_in_reply};
+ghost use Rattle.cf_print_c.specs.Files.{call as call_of, call_by, declared_lines as declared_all, declared_line as one_declared, asked, filter, filter_by, functions, told, variables, gap as gap_of, read_one, reader as reader_of, readers as readers_of, reads as reads_all, space as space_of, writes as writes_all, written as written_one, is_number as is_number_base, is_truth as is_truth_base, numbers_a_value as numbers_value, reply_name as name_in_reply, reply_names as names_in_reply};
 
 use crate::texts;
-use cf_print::{Language, is_numbered, joined_text, put_pieces, text_of_pieces, when};
+use cf_print::{Language, is_numbered, joined_text, put_pieces, when};
 use cf_print_line::{Called, base_text, with_addresses};
 use cf_tree::{Base, NoMemory, Text, put_number};
 use std::alloc::Global;
@@ -175,6 +175,7 @@ fn put_reads(out: &mut Vec<u8>, names: &[Text], bases: &[Base]) -> Result<(), No
     Ok(())
 }
 
+#[tactic(auto, unfolding(crate::specs::Files::call))]
 fn put_call(
     alloc: Global,
     out: &mut Vec<u8>,
@@ -189,8 +190,9 @@ fn put_call(
     put_called(out, name, &all.bytes)
 }
 
+#[tactic(auto, unfolding(crate::specs::Files::call_by))]
 fn put_called<'x>(out: &mut Vec<u8>, name: &'x [u8], args: &'x [u8]) -> Result<(), NoMemory>
-    ensures { OnOk result (out.new.items ≡ out.old.items ++ (name.now ++ (codes "(" ++ (args.now ++ codes ")")))) }
+    ensures { OnOk result (out.new.items ≡ out.old.items ++ call_by name.now args.now) }
 {
     put_pieces(out, &[name, b"(".as_slice(), args, b")".as_slice()])
 }
@@ -213,10 +215,7 @@ fn put_written(out: &mut Vec<u8>, base: Base, name: &[u8]) -> Result<(), NoMemor
             out,
             &[b"        put_text(".as_slice(), name, texts::TRUE_OR_FALSE],
         ),
-        Base::Int | Base::Set => put_pieces(
-            out,
-            &[b"        put_number(".as_slice(), name, b");\n".as_slice()],
-        ),
+        Base::Int | Base::Set => put_pieces(out, &[texts::PUT_NUMBER, name, b");\n".as_slice()]),
     }
 }
 
@@ -247,39 +246,87 @@ fn put_writes(out: &mut Vec<u8>, names: &[Text], bases: &[Base]) -> Result<(), N
     Ok(())
 }
 
+// The functions that write and read, and the first line of the one that replies.
+#[tactic(auto, unfolding(crate::specs::Files::functions))]
+fn put_functions(out: &mut Vec<u8>, bases: &[Base]) -> Result<(), NoMemory>
+    ensures { OnOk result (out.new.items ≡ out.old.items ++ functions bases.now) }
+{
+    out.extend_from_slice(texts::PUT)?;
+    put_readers(out, bases)?;
+    out.extend_from_slice(texts::REPLY)?;
+    Ok(())
+}
+
+// Its variables, for what is read and for what is given.
+#[tactic(auto, unfolding(crate::specs::Files::variables))]
+fn put_variables(
+    out: &mut Vec<u8>,
+    params: &[Text],
+    bases: &[Base],
+    outputs: &[Text],
+    results: &[Base],
+) -> Result<(), NoMemory>
+    ensures { OnOk result (out.new.items ≡ out.old.items ++ variables params.now bases.now outputs.now results.now) }
+{
+    put_declared(out, params, bases)?;
+    put_declared(out, outputs, results)?;
+    out.extend_from_slice(texts::LONG_LINE)?;
+    Ok(())
+}
+
+// How the values of a line are read, up to the call.
+#[tactic(auto, unfolding(crate::specs::Files::asked))]
+fn put_asked(out: &mut Vec<u8>, params: &[Text], bases: &[Base]) -> Result<(), NoMemory>
+    ensures { OnOk result (out.new.items ≡ out.old.items ++ asked params.now bases.now) }
+{
+    put_reads(out, params, bases)?;
+    out.extend_from_slice(texts::BAD_INPUT)?;
+    Ok(())
+}
+
+// What is told of the outcome, how what is given is written, and the end of the file.
+#[tactic(auto, unfolding(crate::specs::Files::told))]
+fn put_told(out: &mut Vec<u8>, outputs: &[Text], results: &[Base]) -> Result<(), NoMemory>
+    ensures { OnOk result (out.new.items ≡ out.old.items ++ told outputs.now results.now) }
+{
+    out.extend_from_slice(texts::TOLD)?;
+    put_writes(out, outputs, results)?;
+    out.extend_from_slice(texts::FILTER_MAIN)?;
+    Ok(())
+}
+
+#[tactic(auto, unfolding(crate::specs::Files::filter_by))]
+fn filter_with(
+    alloc: Global,
+    name: &[u8],
+    params: Vec<Text>,
+    bases: &[Base],
+    outputs: &[Text],
+    results: &[Base],
+) -> Result<Text, NoMemory>
+    ensures { IfOk result (λ t. t ≡ filter_by name.now params.items bases.now outputs.now results.now) }
+{
+    let mut bytes = Vec::new(alloc);
+    put_functions(&mut bytes, bases)?;
+    put_variables(&mut bytes, &params, bases, outputs, results)?;
+    put_asked(&mut bytes, &params, bases)?;
+    put_call(alloc, &mut bytes, name, params, outputs)?;
+    put_told(&mut bytes, outputs, results)?;
+    Ok(Text { bytes })
+}
+
 /// What makes the file of a function one that answers lines.
 pub(crate) fn filter_of(alloc: Global, function: &Called) -> Result<Text, NoMemory>
     ensures { IfOk result (λ t. t ≡ filter function.now) }
 {
     let params = reply_names(alloc, &function.name.bytes, b"p", &function.bases)?;
     let outputs = reply_names(alloc, &function.name.bytes, b"o", &function.results)?;
-    let mut readers = Vec::new(alloc);
-    put_readers(&mut readers, &function.bases)?;
-    let mut declared = Vec::new(alloc);
-    put_declared(&mut declared, &params, &function.bases)?;
-    let mut declared_outputs = Vec::new(alloc);
-    put_declared(&mut declared_outputs, &outputs, &function.results)?;
-    let mut reads = Vec::new(alloc);
-    put_reads(&mut reads, &params, &function.bases)?;
-    let mut call = Vec::new(alloc);
-    put_call(alloc, &mut call, &function.name.bytes, params, &outputs)?;
-    let mut writes = Vec::new(alloc);
-    put_writes(&mut writes, &outputs, &function.results)?;
-    text_of_pieces(
+    filter_with(
         alloc,
-        &[
-            texts::PUT,
-            readers.as_slice(),
-            texts::REPLY,
-            declared.as_slice(),
-            declared_outputs.as_slice(),
-            texts::LONG_LINE,
-            reads.as_slice(),
-            texts::BAD_INPUT,
-            call.as_slice(),
-            texts::TOLD,
-            writes.as_slice(),
-            texts::FILTER_MAIN,
-        ],
+        &function.name.bytes,
+        params,
+        &function.bases,
+        &outputs,
+        &function.results,
     )
 }

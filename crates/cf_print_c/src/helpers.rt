@@ -27,14 +27,14 @@ fn with_quotients(alloc: Global, text: Vec<u8>) -> Result<Vec<u8>, NoMemory>
     with_helper(alloc, b"div_down(", texts::DIV_DOWN, text)
 }
 
-/// Those of C that stand before its status.
+/// A text of C behind the macro that it calls, which stands before its status.
 pub(crate) fn with_definitions(alloc: Global, text: Vec<u8>) -> Result<Vec<u8>, NoMemory>
     ensures { IfOk result (λ all. all.items ≡ those_definitions text.items) }
 {
     with_helper(alloc, b"from_halves(", texts::HALVES, text)
 }
 
-/// The same of C.
+/// A text of C behind the helpers that it calls, and those that they call.
 pub(crate) fn with_helpers(alloc: Global, text: Vec<u8>) -> Result<Vec<u8>, NoMemory>
     ensures { IfOk result (λ all. all.items ≡ all_helpers text.items) }
 {

@@ -1,7 +1,7 @@
 //! The function that is called: its first line, and what stands before its first statement.
 ghost use Rattle.std.specs.Prelude.{◌≡◌, ◌++◌, ◌∷◌, [], codes, drop, nat_eq, true, IfOk, OnOk};
 ghost use Rattle.cf_print.specs.declared.language.Language.TheVariants.{C};
-ghost use Rattle.cf_print_c.specs.Files.{first_line, all_unread, below_text as below_one, below_texts as all_below, checks as checks_of_c, opening, status_text as status_of};
+ghost use Rattle.cf_print_c.specs.Files.{first_line, all_unread, below_text as below_one, below_texts as all_below, beginning, beginning_by, checks as checks_of_c, comment, comment_by, opening, status_text as status_of};
 
 use crate::texts;
 use cf_print::{Language, joined_text, text_of_pieces, when};
@@ -113,31 +113,67 @@ pub(crate) fn first_line_of(alloc: Global, function: &Called) -> Result<Text, No
     )
 }
 
-/// The lines of a function that is called, before its first statement.
-pub fn opening_of(alloc: Global, is_filter: bool, function: &Called) -> Result<Text, NoMemory>
-    ensures { IfOk result (λ t. t ≡ opening is_filter function.now) }
+#[tactic(auto, unfolding(crate::specs::Files::comment_by))]
+fn comment_with<'x>(alloc: Global, about: &'x [u8], nones: &'x [u8]) -> Result<Text, NoMemory>
+    ensures { IfOk result (λ t. t ≡ comment_by about.now nones.now) }
 {
-    let head = first_line_of(alloc, function)?;
-    let about = about_main(alloc, &function.result_names)?;
-    let status = status_text(alloc, &function.nones)?;
-    let nones = about_nones(alloc, b" * ", &status.bytes, &function.nones)?;
-    let tests = below_texts(alloc, &function.params, &function.bases)?;
-    let checks = checks(alloc, &tests)?;
-    let mut unread = Vec::new(alloc);
-    put_all_unread(&mut unread, &function.unread)?;
     text_of_pieces(
         alloc,
         &[
             b"/*\n * ".as_slice(),
-            about.bytes.as_slice(),
+            about,
             b"\n".as_slice(),
-            nones.bytes.as_slice(),
+            nones,
             texts::PAST,
-            when(is_filter, b"static "),
-            head.bytes.as_slice(),
-            C_BODY,
-            checks.bytes.as_slice(),
-            unread.as_slice(),
         ],
     )
+}
+
+// The comment before it.
+fn comment_of(alloc: Global, function: &Called) -> Result<Text, NoMemory>
+    ensures { IfOk result (λ t. t ≡ comment function.now) }
+{
+    let about = about_main(alloc, &function.result_names)?;
+    let status = status_text(alloc, &function.nones)?;
+    let nones = about_nones(alloc, b" * ", &status.bytes, &function.nones)?;
+    comment_with(alloc, &about.bytes, &nones.bytes)
+}
+
+#[tactic(auto, unfolding(crate::specs::Files::beginning_by))]
+fn beginning_with<'x>(
+    alloc: Global,
+    is_filter: bool,
+    head: &'x [u8],
+    checks: &'x [u8],
+    unread: &'x [u8],
+) -> Result<Text, NoMemory>
+    ensures { IfOk result (λ t. t ≡ beginning_by is_filter head.now checks.now unread.now) }
+{
+    text_of_pieces(
+        alloc,
+        &[when(is_filter, b"static "), head, C_BODY, checks, unread],
+    )
+}
+
+// Its first line, and what stands before its first statement.
+fn beginning_of(alloc: Global, is_filter: bool, function: &Called) -> Result<Text, NoMemory>
+    ensures { IfOk result (λ t. t ≡ beginning is_filter function.now) }
+{
+    let head = first_line_of(alloc, function)?;
+    let tests = below_texts(alloc, &function.params, &function.bases)?;
+    let checks = checks(alloc, &tests)?;
+    let mut unread = Vec::new(alloc);
+    put_all_unread(&mut unread, &function.unread)?;
+    beginning_with(alloc, is_filter, &head.bytes, &checks.bytes, &unread)
+}
+
+/// The lines of a function that is called, before its first statement.
+pub fn opening_of(alloc: Global, is_filter: bool, function: &Called) -> Result<Text, NoMemory>
+    ensures { IfOk result (λ t. t ≡ opening is_filter function.now) }
+{
+    let comment = comment_of(alloc, function)?;
+    let beginning = beginning_of(alloc, is_filter, function)?;
+    let mut bytes = comment.bytes;
+    bytes.extend_from_slice(&beginning.bytes)?;
+    Ok(Text { bytes })
 }

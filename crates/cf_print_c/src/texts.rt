@@ -10,6 +10,9 @@ pub const RETURN_PAST: &[u8] = b")
         return COMFUSY_OVERFLOW;
 ";
 
+/// Before a number that is written.
+pub const PUT_NUMBER: &[u8] = b"        put_number(";
+
 /// Behind a truth value that is written.
 pub const TRUE_OR_FALSE: &[u8] = b" ? \"true\" : \"false\");
 ";

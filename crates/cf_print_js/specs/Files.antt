@@ -6,7 +6,7 @@ use Rattle.cf_tree.specs.declared.base.Base.TheVariants.{Int, Bool as Truth, Set
 use Rattle.cf_print_line.specs.Layout.{base_text}
 use Rattle.cf_print_line.specs.Heads.{all_parameters, head_text, results_text}
 use Rattle.cf_print.specs.declared.language.Language.TheVariants.{JavaScript}
-use Rattle.cf_print_js.specs.declared.texts.TheConstants.{PAST, THROWS, MAX, NONE, OVERFLOW, FIT, TOTAL, WHOLE, TRUTH, RISING, NUMBERS, SET_OF, DIV, MOD, LEAST, GREATEST, UNION, INTER, DIFF, SUBSET, SAME, CARD, SLICE, FRESH, FILTER, REPLY, FILTER_MAIN}
+use Rattle.cf_print_js.specs.declared.texts.TheConstants.{PAST, RETURNS, THROWS, AS_NUMBERS, MAX, NONE, OVERFLOW, FIT, TOTAL, WHOLE, TRUTH, RISING, NUMBERS, SET_OF, DIV, MOD, LEAST, GREATEST, UNION, INTER, DIFF, SUBSET, SAME, CARD, SLICE, FRESH, FILTER, REPLY, FILTER_MAIN}
 use Rattle.cf_print.specs.Helpers.{when, with_helper}
 use Rattle.cf_print.specs.Sources.{head_of}
 use Rattle.cf_print_line.specs.Called.{about_main, about_nones, Called}
@@ -41,7 +41,7 @@ with_parts text =
 abbrev pub with_helpers : List ℕ → List ℕ
 with_helpers text = with_numbers (with_arguments (with_operations (with_sets (with_parts text))))
 
--- what a caller of JavaScript gives: any iterable for a set
+-- what a caller gives: any iterable for a set
 abbrev pub given_base : Base → List ℕ
 given_base Int = base_text JavaScript Int
 given_base Truth = base_text JavaScript Truth
@@ -57,7 +57,7 @@ params _ _ = []
 abbrev pub check : List ℕ → Base → List ℕ
 check x Int = concat (codes "  whole(" ∷ x ∷ codes ");\n" ∷ [])
 check x Truth = concat (codes "  truth(" ∷ x ∷ codes ");\n" ∷ [])
-check x Set = concat (codes "  " ∷ x ∷ codes " = numbers(" ∷ x ∷ codes ");\n" ∷ [])
+check x Set = concat (codes "  " ∷ x ∷ AS_NUMBERS.now ∷ x ∷ codes ");\n" ∷ [])
 
 abbrev pub checks : List (List ℕ) → List Base → List ℕ
 checks (x ∷ xs) (b ∷ bs) = check x b ++ checks xs bs
@@ -68,22 +68,33 @@ abbrev pub first_line : Called → List ℕ
 first_line f =
     concat (codes "export " ∷ head_text JavaScript f.name (all_parameters JavaScript f.params f.bases f.pointers f.results) f.results ∷ [])
 
-abbrev pub opening : Called → List ℕ
-opening f =
-    concat (codes "\n/**\n * " ∷ about_main f.result_names ∷ codes "\n" ∷ about_nones (codes " * ") (codes "NoSolution") f.nones ∷
-    PAST.now ∷ params f.params f.bases ∷ codes " * @returns {" ∷
-    results_text JavaScript f.results ∷ THROWS.now ∷ first_line f ∷
-    checks f.params f.bases ∷ [])
+-- the comment before it: what it gives and where it gives nothing, its parameters, and its results
+unfoldable pub comment_by : List ℕ → List ℕ → List ℕ → List ℕ → List ℕ
+comment_by about nones params results =
+    concat (codes "\n/**\n * " ∷ about ∷ codes "\n" ∷ nones ∷ PAST.now ∷ params ∷ RETURNS.now ∷ results ∷ THROWS.now ∷ [])
 
--- in JavaScript, on the values of a line
+abbrev pub comment : Called → List ℕ
+comment f =
+    comment_by (about_main f.result_names) (about_nones (codes " * ") (codes "NoSolution") f.nones) (params f.params f.bases)
+    (results_text JavaScript f.results)
+
+-- its lines before its first statement
+abbrev pub opening : Called → List ℕ
+opening f = concat (comment f ∷ first_line f ∷ checks f.params f.bases ∷ [])
+
+-- what a reply holds, on the values of a line
 abbrev pub reply : List ℕ → List Base → List ℕ
 reply name bs =
     if nat_eq (length bs) 1 then concat (codes "written(" ∷ name ∷ codes "(...values))" ∷ [])
     else concat (name ∷ codes "(...values).map(written).join(\" \")" ∷ [])
 
-abbrev pub filter : Called → List ℕ
-filter f = concat (FILTER.now ∷ line_text f.bases ∷ REPLY.now ∷ reply f.name f.results ∷ FILTER_MAIN.now ∷ [])
+unfoldable pub filter_by : List ℕ → List ℕ → List ℕ
+filter_by line reply = concat (FILTER.now ∷ line ∷ REPLY.now ∷ reply ∷ FILTER_MAIN.now ∷ [])
 
+abbrev pub filter : Called → List ℕ
+filter f = filter_by (line_text f.bases) (reply f.name f.results)
+
+-- the file around functions, and what stands behind them
 abbrev pub around : List ℕ → List ℕ → List ℕ
 around source text = head_of JavaScript source ++ with_helpers text
 

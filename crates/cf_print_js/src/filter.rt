@@ -1,6 +1,6 @@
 //! What makes a file a filter of lines.
 ghost use Rattle.std.specs.Prelude.{◌≡◌, ◌++◌, codes, map, true, IfOk, OnOk};
-ghost use Rattle.cf_print_js.specs.Files.{filter, reply as reply_of};
+ghost use Rattle.cf_print_js.specs.Files.{filter, filter_by, reply as reply_of};
 
 use crate::texts;
 use cf_print::text_of_pieces;
@@ -31,14 +31,15 @@ pub(crate) fn filter_of(alloc: Global, function: &Called) -> Result<Text, NoMemo
 {
     let line = line_text(alloc, &function.bases)?;
     let reply = reply(alloc, &function.name.bytes, &function.results)?;
+    filter_with(alloc, &line.bytes, &reply.bytes)
+}
+
+#[tactic(auto, unfolding(crate::specs::Files::filter_by))]
+fn filter_with<'x>(alloc: Global, line: &'x [u8], reply: &'x [u8]) -> Result<Text, NoMemory>
+    ensures { IfOk result (λ t. t ≡ filter_by line.now reply.now) }
+{
     text_of_pieces(
         alloc,
-        &[
-            texts::FILTER,
-            line.bytes.as_slice(),
-            texts::REPLY,
-            reply.bytes.as_slice(),
-            texts::FILTER_MAIN,
-        ],
+        &[texts::FILTER, line, texts::REPLY, reply, texts::FILTER_MAIN],
     )
 }

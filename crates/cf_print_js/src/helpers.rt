@@ -59,7 +59,7 @@ fn with_parts(alloc: Global, text: Vec<u8>) -> Result<Vec<u8>, NoMemory>
     with_helper(alloc, b"same(", texts::SAME, text)
 }
 
-/// The same of JavaScript.
+/// A text of JavaScript behind the helpers that it calls, and those that they call.
 pub(crate) fn with_helpers(alloc: Global, text: Vec<u8>) -> Result<Vec<u8>, NoMemory>
     ensures { IfOk result (λ all. all.items ≡ all_helpers text.items) }
 {

@@ -1,6 +1,6 @@
 //! The function that is called: its first line, and what stands before its first statement.
 ghost use Rattle.std.specs.Prelude.{◌≡◌, ◌++◌, ◌∷◌, [], codes, drop, nat_eq, true, IfOk, OnOk};
-ghost use Rattle.cf_print_js.specs.Files.{first_line, given_base as base_given, check, checks, opening, param, params};
+ghost use Rattle.cf_print_js.specs.Files.{first_line, given_base as base_given, check, checks, comment, comment_by, opening, param, params};
 
 use crate::texts;
 use cf_print::{Language, put_pieces, text_of_pieces};
@@ -64,7 +64,7 @@ fn put_check(out: &mut Vec<u8>, name: &[u8], base: Base) -> Result<(), NoMemory>
             &[
                 b"  ".as_slice(),
                 name,
-                b" = numbers(".as_slice(),
+                texts::AS_NUMBERS,
                 name,
                 b");\n".as_slice(),
             ],
@@ -88,8 +88,8 @@ fn put_checks(out: &mut Vec<u8>, names: &[Text], bases: &[Base]) -> Result<(), N
     Ok(())
 }
 
-/// Its first line.
-pub(crate) fn first_line_of(alloc: Global, function: &Called) -> Result<Text, NoMemory>
+// Its first line.
+fn first_line_of(alloc: Global, function: &Called) -> Result<Text, NoMemory>
     ensures { IfOk result (λ t. t ≡ first_line function.now) }
 {
     let params = all_parameters(
@@ -110,30 +110,56 @@ pub(crate) fn first_line_of(alloc: Global, function: &Called) -> Result<Text, No
     text_of_pieces(alloc, &[b"export ".as_slice(), head.bytes.as_slice()])
 }
 
-/// The lines of a function that is called, before its first statement.
-pub fn opening_of(alloc: Global, function: &Called) -> Result<Text, NoMemory>
-    ensures { IfOk result (λ t. t ≡ opening function.now) }
+// The comment before it.
+fn comment_of(alloc: Global, function: &Called) -> Result<Text, NoMemory>
+    ensures { IfOk result (λ t. t ≡ comment function.now) }
 {
-    let head = first_line_of(alloc, function)?;
     let about = about_main(alloc, &function.result_names)?;
     let nones = about_nones(alloc, b" * ", b"NoSolution", &function.nones)?;
     let mut params = Vec::new(alloc);
     put_params(&mut params, &function.params, &function.bases)?;
     let results = results_text(alloc, Language::JavaScript, &function.results)?;
+    comment_with(alloc, &about.bytes, &nones.bytes, &params, &results.bytes)
+}
+
+#[tactic(auto, unfolding(crate::specs::Files::comment_by))]
+fn comment_with<'x>(
+    alloc: Global,
+    about: &'x [u8],
+    nones: &'x [u8],
+    params: &'x [u8],
+    results: &'x [u8],
+) -> Result<Text, NoMemory>
+    ensures { IfOk result (λ t. t ≡ comment_by about.now nones.now params.now results.now) }
+{
+    text_of_pieces(
+        alloc,
+        &[
+            b"\n/**\n * ".as_slice(),
+            about,
+            b"\n".as_slice(),
+            nones,
+            texts::PAST,
+            params,
+            texts::RETURNS,
+            results,
+            texts::THROWS,
+        ],
+    )
+}
+
+/// The lines of a function that is called, before its first statement.
+pub fn opening_of(alloc: Global, function: &Called) -> Result<Text, NoMemory>
+    ensures { IfOk result (λ t. t ≡ opening function.now) }
+{
+    let comment = comment_of(alloc, function)?;
+    let head = first_line_of(alloc, function)?;
     let mut checks = Vec::new(alloc);
     put_checks(&mut checks, &function.params, &function.bases)?;
     text_of_pieces(
         alloc,
         &[
-            b"\n/**\n * ".as_slice(),
-            about.bytes.as_slice(),
-            b"\n".as_slice(),
-            nones.bytes.as_slice(),
-            texts::PAST,
-            params.as_slice(),
-            b" * @returns {".as_slice(),
-            results.bytes.as_slice(),
-            texts::THROWS,
+            comment.bytes.as_slice(),
             head.bytes.as_slice(),
             checks.as_slice(),
         ],

@@ -5,11 +5,17 @@ pub const PAST: &[u8] = b" * Overflow where a number is past MAX.
  *
 ";
 
+/// From the parameters to what the function returns.
+pub const RETURNS: &[u8] = b" * @returns {";
+
 /// From what the function returns to its first line.
 pub const THROWS: &[u8] = b"}
  * @throws {NoSolution | Overflow}
  */
 ";
+
+/// What makes an argument a set, from its name on.
+pub const AS_NUMBERS: &[u8] = b" = numbers(";
 
 /// The greatest number.
 pub const MAX: &[u8] = b"

@@ -5,7 +5,7 @@ use Rattle.cf_tree.specs.declared.base.Base.{Base}
 use Rattle.cf_tree.specs.declared.base.Base.TheVariants.{Int, Bool as Truth, Set}
 use Rattle.cf_print_line.specs.Heads.{head_text, parameter_text}
 use Rattle.cf_print.specs.declared.language.Language.TheVariants.{Python}
-use Rattle.cf_print_python.specs.declared.texts.TheConstants.{PAST, ITERABLE, MAX, NONE, FIT, TOTAL, WHOLE, TRUTH, NUMBERS, SLICE, FRESH, IMPORTS, FILTER, REPLY, OUTCOME, FILTER_MAIN}
+use Rattle.cf_print_python.specs.declared.texts.TheConstants.{PAST, AS_NUMBERS, ITERABLE, MAX, NONE, FIT, TOTAL, WHOLE, TRUTH, NUMBERS, SLICE, FRESH, IMPORTS, FILTER, REPLY, OUTCOME, FILTER_MAIN}
 use Rattle.cf_print.specs.Helpers.{when, with_helper}
 use Rattle.cf_print.specs.Sources.{head_of}
 use Rattle.cf_print_line.specs.Called.{about_main, about_nones, Called}
@@ -26,17 +26,17 @@ with_arguments text =
 abbrev pub with_helpers : List ℕ → List ℕ
 with_helpers text = with_numbers (with_arguments text)
 
--- the check of an argument; that of a number in C is a part of the condition of one guard
+-- the check of an argument
 abbrev pub check : List ℕ → Base → List ℕ
 check x Int = concat (codes "    whole(" ∷ x ∷ codes ")\n" ∷ [])
 check x Truth = concat (codes "    truth(" ∷ x ∷ codes ")\n" ∷ [])
-check x Set = concat (codes "    " ∷ x ∷ codes " = numbers(" ∷ x ∷ codes ")\n" ∷ [])
+check x Set = concat (codes "    " ∷ x ∷ AS_NUMBERS.now ∷ x ∷ codes ")\n" ∷ [])
 
 abbrev pub checks : List (List ℕ) → List Base → List ℕ
 checks (x ∷ xs) (b ∷ bs) = check x b ++ checks xs bs
 checks _ _ = []
 
--- parameters as callers see them: of Python, any iterable for a set
+-- parameters as callers see them: any iterable for a set
 abbrev pub called_parameter : List ℕ → Base → List ℕ
 called_parameter x Set = x ++ codes ": Iterable[int]"
 called_parameter x Int = parameter_text Python x Int
@@ -50,23 +50,25 @@ called_parameters _ _ = []
 abbrev pub first_line : Called → List ℕ
 first_line f = head_text Python f.name (called_parameters f.params f.bases) f.results
 
--- its lines before its first statement
+-- its lines before its first statement: its first line, what it gives and where it gives nothing, and the checks of its arguments
+unfoldable pub opening_by : List ℕ → List ℕ → List ℕ → List ℕ → List ℕ
+opening_by head about nones checks =
+    concat (codes "\n\n" ∷ head ∷ codes "    \"\"\"" ∷ about ∷ codes "\n\n" ∷ nones ∷ PAST.now ∷ checks ∷ [])
+
 abbrev pub opening : Called → List ℕ
 opening f =
-    concat (codes "\n\n" ∷ first_line f ∷ codes "    \"\"\"" ∷ about_main f.result_names ∷ codes "\n\n" ∷
-    about_nones (codes "    ") (codes "NoSolution") f.nones ∷ PAST.now ∷
-    checks f.params f.bases ∷ [])
+    opening_by (first_line f) (about_main f.result_names) (about_nones (codes "    ") (codes "NoSolution") f.nones) (checks f.params f.bases)
 
 abbrev pub reply : List Base → List ℕ
 reply bs = if nat_eq (length bs) 1 then codes "written(outcome)" else codes "\" \".join(map(written, outcome))"
 
-abbrev pub filter_by : List ℕ → List ℕ → List ℕ → List ℕ
+unfoldable pub filter_by : List ℕ → List ℕ → List ℕ → List ℕ
 filter_by line name reply = concat (FILTER.now ∷ line ∷ REPLY.now ∷ name ∷ OUTCOME.now ∷ reply ∷ FILTER_MAIN.now ∷ [])
 
 abbrev pub filter : Called → List ℕ
 filter f = filter_by (line_text f.bases) f.name (reply f.results)
 
--- the file of a function, whose text this is with that of those before it
+-- the file around functions, and what stands behind them
 abbrev pub around : Bool → List ℕ → List ℕ → List ℕ
 around has_main source text = (head_of Python source ++ when has_main IMPORTS.now) ++ with_helpers text
 

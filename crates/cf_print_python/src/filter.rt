@@ -31,6 +31,7 @@ pub(crate) fn filter_of(alloc: Global, function: &Called) -> Result<Text, NoMemo
     )
 }
 
+#[tactic(auto, unfolding(crate::specs::Files::filter_by))]
 fn filter_with<'x>(
     alloc: Global,
     line: &'x [u8],

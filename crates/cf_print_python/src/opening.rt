@@ -1,6 +1,6 @@
 //! The function that is called: its first line, and what stands before its first statement.
 ghost use Rattle.std.specs.Prelude.{◌≡◌, ◌++◌, ◌∷◌, [], codes, drop, nat_eq, true, IfOk, OnOk};
-ghost use Rattle.cf_print_python.specs.Files.{first_line, called_parameter as parameter_of_called, called_parameters as parameters_of_called, check as check_of, checks as checks_of, opening};
+ghost use Rattle.cf_print_python.specs.Files.{first_line, called_parameter as parameter_of_called, called_parameters as parameters_of_called, check as check_of, checks as checks_of, opening, opening_by};
 
 use crate::texts;
 use cf_print::{Language, put_pieces, text_of_pieces};
@@ -20,7 +20,7 @@ fn put_check(out: &mut Vec<u8>, name: &[u8], base: Base) -> Result<(), NoMemory>
             &[
                 b"    ".as_slice(),
                 name,
-                b" = numbers(".as_slice(),
+                texts::AS_NUMBERS,
                 name,
                 b")\n".as_slice(),
             ],
@@ -75,8 +75,8 @@ fn called_parameters(alloc: Global, names: &[Text], bases: &[Base]) -> Result<Ve
     Ok(all)
 }
 
-/// Its first line.
-pub(crate) fn first_line_of(alloc: Global, function: &Called) -> Result<Text, NoMemory>
+// Its first line.
+fn first_line_of(alloc: Global, function: &Called) -> Result<Text, NoMemory>
     ensures { IfOk result (λ t. t ≡ first_line function.now) }
 {
     let params = called_parameters(alloc, &function.params, &function.bases)?;
@@ -98,17 +98,30 @@ pub fn opening_of(alloc: Global, function: &Called) -> Result<Text, NoMemory>
     let nones = about_nones(alloc, b"    ", b"NoSolution", &function.nones)?;
     let mut checks = Vec::new(alloc);
     put_checks(&mut checks, &function.params, &function.bases)?;
+    opening_with(alloc, &head.bytes, &about.bytes, &nones.bytes, &checks)
+}
+
+#[tactic(auto, unfolding(crate::specs::Files::opening_by))]
+fn opening_with<'x>(
+    alloc: Global,
+    head: &'x [u8],
+    about: &'x [u8],
+    nones: &'x [u8],
+    checks: &'x [u8],
+) -> Result<Text, NoMemory>
+    ensures { IfOk result (λ t. t ≡ opening_by head.now about.now nones.now checks.now) }
+{
     text_of_pieces(
         alloc,
         &[
             b"\n\n".as_slice(),
-            head.bytes.as_slice(),
+            head,
             b"    \"\"\"".as_slice(),
-            about.bytes.as_slice(),
+            about,
             b"\n\n".as_slice(),
-            nones.bytes.as_slice(),
+            nones,
             texts::PAST,
-            checks.as_slice(),
+            checks,
         ],
     )
 }

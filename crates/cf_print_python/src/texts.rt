@@ -5,6 +5,9 @@ pub const PAST: &[u8] = b"    OverflowError where a number is past MAX.
     \"\"\"
 ";
 
+/// What makes an argument a set, from its name on.
+pub const AS_NUMBERS: &[u8] = b" = numbers(";
+
 /// The name of what a set is taken from.
 pub const ITERABLE: &[u8] = b"
 from collections.abc import Iterable
