@@ -1,2 +1,0 @@
-pub mod LoopLaws
-pub mod StatementExamples

@@ -1,4 +1,0 @@
-pub mod Places
-pub mod PrinterView
-pub mod Statements
-pub mod StatementParts

@@ -1,2 +1,0 @@
-pub mod PrintedExamples
-pub mod FileExamples
