@@ -1,0 +1,58 @@
+-- Members of formulas, one behind the other.
+use Rattle.std.proofs.Common.{◌≡◌, ℕ, ◌<◌, List, [], ◌∷◌, ◌++◌, map, Bool, false, not, refl, sym, ◌∙◌, ap, append_assoc, get_or, take, length, ◌+◌, reverse}
+use Rattle.std.specs.Prelude.{filter}
+use Rattle.std.specs.List.{flat_map}
+use Rattle.std.proofs.lemmas.List.{append-nil}
+use Rattle.cf_formula.specs.declared.formula.Formula.{Formula as DeclaredFormula}
+use Rattle.cf_formula.specs.Formulas.{Formula, never}
+use Rattle.cf_formula.specs.FormulaView.{formula_tree, formula_trees}
+use Rattle.cf_formula.specs.Members.{is_among, is_needless_or, and_of, is_needless_and, is_covered, or_of, unmarked, all_of, any_of}
+use Rattle.cf_formula.proofs.FormulaLists.{last_next, all_left, place_tree, unmarked_are}
+
+pub no_more : (fs : List Formula) → fs ≡ fs ++ []
+no_more fs = sym (append-nil fs)
+
+pub more_members : (fs gs hs as_ bs : List Formula) → gs ≡ fs ++ as_ → hs ≡ gs ++ bs → hs ≡ fs ++ (as_ ++ bs)
+more_members fs gs hs as_ bs e f = f ∙ ap (λ s. s ++ bs) e ∙ append_assoc fs as_ bs
+
+-- ---- the members of part after part
+module _ (members : Formula → List Formula) where
+  pub flat_start : (parts left : List DeclaredFormula) (out : List DeclaredFormula) → left ≡ reverse parts → out ≡ [] →
+      formula_trees out ++ flat_map members (formula_trees (reverse left)) ≡ flat_map members (formula_trees parts)
+  flat_start parts left out e f = rw (f, all_left parts left e) refl
+
+  pub flat_step : (before left out next : List DeclaredFormula) (f : DeclaredFormula) (target : List Formula) → before ≡ left ++ (f ∷ []) →
+      formula_trees next ≡ formula_trees out ++ members (formula_tree f) →
+      formula_trees out ++ flat_map members (formula_trees (reverse before)) ≡ target →
+      formula_trees next ++ flat_map members (formula_trees (reverse left)) ≡ target
+  flat_step before left out next f target e n inv =
+      ap (λ s. s ++ flat_map members (formula_trees (reverse left))) n ∙
+      append_assoc (formula_trees out) (members (formula_tree f)) (flat_map members (formula_trees (reverse left))) ∙
+      ap (λ s. formula_trees out ++ flat_map members s) (sym (last_next before left f e)) ∙ inv
+
+  pub flat_done : (left out : List DeclaredFormula) (target : List Formula) → left ≡ [] →
+      formula_trees out ++ flat_map members (formula_trees (reverse left)) ≡ target → formula_trees out ≡ target
+  flat_done left out target e inv =
+      sym (append-nil (formula_trees out)) ∙ ap (λ s. formula_trees out ++ flat_map members (formula_trees (reverse s))) (sym e) ∙ inv
+
+-- ---- of each member a mark
+pub mark_step : (p : Formula → Bool) (fs : List DeclaredFormula) (marks next : List Bool) (i : ℕ) (f : DeclaredFormula) (b : Bool) → i < length fs → f ≡ get_or fs i f →
+    next ≡ marks ++ (b ∷ []) → b ≡ p (formula_tree f) → marks ≡ map p (formula_trees (take i fs)) → next ≡ map p (formula_trees (take (i + 1) fs))
+mark_step p fs marks next i f b h e n g inv =
+    n ∙ ap (λ s. s ++ (b ∷ [])) inv ∙ ap (λ c. map p (formula_trees (take i fs)) ++ (c ∷ [])) g ∙
+    one_more (formula_trees (take i fs)) (formula_tree f) ∙ ap (map p) (sym (place_tree fs i f h e))
+  where
+    one_more : (ts : List Formula) (t : Formula) → map p ts ++ (p t ∷ []) ≡ map p (ts ++ (t ∷ []))
+    one_more [] t = refl
+    one_more (u ∷ ts) t = ap (λ s. p u ∷ s) (one_more ts t)
+
+-- ---- without those that are marked
+pub kept_are : (p : Formula → Bool) (ts ns : List Formula) (marks given : List Bool) → given ≡ map p ts → marks ≡ given → ns ≡ unmarked marks ts →
+    ns ≡ filter (λ f. not (p f)) ts
+kept_are p ts ns marks given m d n = n ∙ ap (λ bs. unmarked bs ts) (d ∙ m) ∙ unmarked_are p ts
+
+pub needed_or : (ts : List Formula) → is_among ts never ≡ false → all_of (filter (λ h. not (is_needless_or ts h)) ts) ≡ and_of ts
+needed_or ts e = rw e refl
+
+pub needed_and : (ts : List Formula) → is_covered ts ≡ false → any_of (filter (λ h. not (is_needless_and ts h)) ts) ≡ or_of ts
+needed_and ts e = rw e refl
