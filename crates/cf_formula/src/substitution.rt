@@ -52,7 +52,8 @@ fn put_all(alloc: Global, replacements: &[Replacement], row: &Row) -> Result<Row
 }
 
 fn put_one(alloc: Global, replacement: &Replacement, row: &Row) -> Result<Row, RowFault>
-    ensures { SubstAnswer (subst_passes replacement.now.column replacement.now.row row.now) (subst_row replacement.now.column replacement.now.row row.now) result }
+    ensures { SubstAnswer (subst_passes replacement.now.column replacement.now.row row.now)
+        (subst_row replacement.now.column replacement.now.row row.now) result }
 {
     match row.subst(alloc, replacement.column, &replacement.row) {
         Ok(put) => Ok(put),
