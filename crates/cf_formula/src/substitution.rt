@@ -38,17 +38,17 @@ impl Substitution {
     }
 }
 
-#[tactic(auto, using(crate::proofs::SubstitutionCode::put_made, crate::proofs::SubstitutionCode::put_fault))]
+// The row with the rows in it, from the last one on.
 fn put_all(alloc: Global, replacements: &[Replacement], row: &Row) -> Result<Row, RowFault>
     ensures { SubstAnswer (rows_pass (pairs_of replacements.now) row.now) (subst_rows (pairs_of replacements.now) row.now) result }
 {
-    match replacements.split_first() {
-        Some((first, others)) => {
-            let inner = put_all(alloc, others, row)?;
-            put_one(alloc, first, &inner)
-        }
-        None => Ok(row.try_copy(alloc)?),
+    let mut put = row.try_copy(alloc)?;
+    let mut i = replacements.len();
+    while i > 0 {
+        i -= 1;
+        put = put_one(alloc, &replacements[i], &put)?;
     }
+    Ok(put)
 }
 
 fn put_one(alloc: Global, replacement: &Replacement, row: &Row) -> Result<Row, RowFault>
