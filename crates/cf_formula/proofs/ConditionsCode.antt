@@ -1,11 +1,10 @@
 -- Conditions that are written anew, list by list.
-use Rattle.std.proofs.Common.{◌≡◌, ◌+◌, ◌<◌, arith, reverse, List, [], ◌∷◌, ◌++◌, map, Bool, true, false, ◌||◌, refl, sym, ◌∙◌, ap}
+use Rattle.std.proofs.Common.{◌≡◌, ◌+◌, arith, reverse, List, [], ◌∷◌, ◌++◌, map, Bool, false, refl, sym, ◌∙◌, ap}
 use Rattle.std.specs.List.{list_any}
 use Rattle.cf_linear.specs.Rows.{Row}
-use Rattle.cf_formula.specs.declared.conditions.Conditions.{Conditions as DeclaredConditions}
 use Rattle.cf_formula.specs.Atoms.{ge, eq}
 use Rattle.cf_formula.specs.declared.formula.Formula.{Formula as DeclaredFormula}
-use Rattle.cf_formula.specs.ConditionsView.{conditions_of, IsAdded}
+use Rattle.cf_formula.specs.ConditionsView.{IsAdded}
 use Rattle.cf_formula.specs.FormulaView.{formula_tree, formula_trees, size, size_of_all}
 use Rattle.cf_formula.specs.Formulas.{Formula, both}
 use Rattle.cf_formula.specs.Rewriting.{with_rows, some_atom}

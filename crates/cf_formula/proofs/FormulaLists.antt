@@ -1,13 +1,12 @@
 -- The loops over lists of formulas.
 use Rattle.std.proofs.Common.{◌≡◌, ℕ, ◌<◌, ◌≤◌, ◌+◌, List, [], ◌∷◌, ◌++◌, map, Bool, true, false, cond, not, ◌||◌, refl, sym, ◌∙◌, ap, arith, zero, suc, append_assoc, get_or, length, take, drop, drop-cons, add-one, reverse}
 use Rattle.std.specs.Prelude.{filter}
-use Rattle.std.specs.List.{list_any, flat_map}
+use Rattle.std.specs.List.{list_any}
 use Rattle.std.proofs.Math.ListN.{drop_of_length-le}
-use Rattle.std.proofs.lemmas.Bool.{cond_both}
 use Rattle.std.proofs.lemmas.List.{append-nil, reverse-append, reverse-reverse}
 use Rattle.cf_linear.proofs.BoolLemmas.{on_bool}
 use Rattle.cf_formula.specs.declared.formula.Formula.{Formula as DeclaredFormula}
-use Rattle.cf_formula.specs.Formulas.{Formula, always, never, both, either}
+use Rattle.cf_formula.specs.Formulas.{Formula, both, either}
 use Rattle.cf_formula.specs.FormulaView.{formula_tree, formula_trees, IsMoved}
 use Rattle.cf_formula.specs.Members.{same_formula, is_among, distinct_formulas, unmarked, all_of, any_of}
 

@@ -6,7 +6,6 @@ use Rattle.std.proofs.lemmas.List.{append-nil}
 use Rattle.cf_formula.specs.declared.formula.Formula.{Formula as DeclaredFormula}
 use Rattle.cf_formula.specs.Formulas.{Formula, always, never, at_least, equal, both, either}
 use Rattle.cf_formula.specs.FormulaView.{formula_tree, formula_trees, size, size_of_all, IsSplit}
-use Rattle.cf_linear.specs.Rows.{Row}
 use Rattle.cf_formula.specs.Members.{conjuncts, disjuncts, is_among, is_needless_or, and_of, is_needless_and, is_covered, or_of, unmarked, all_of, any_of}
 use Rattle.cf_formula.proofs.FormulaLists.{last_next, all_left, place_tree, unmarked_are}
 
@@ -20,14 +19,14 @@ some_size (either f g) = omega arith
 
 -- ---- one formula, or its parts
 module _ (members : Formula → List Formula) where
-  none_left : (f : Formula) (left out : List DeclaredFormula) → members f ≡ [] → IsSplit members f left left out out
+  pub none_left : (f : Formula) (left out : List DeclaredFormula) → members f ≡ [] → IsSplit members f left left out out
   none_left f left out e =
       let p = some_size f in record {
         same = ap (λ s. formula_trees out ++ (s ++ flat_map members (formula_trees (reverse left)))) (sym e);
         fewer = omega arith;
       }
 
-  one_out : (f : Formula) (left out next : List DeclaredFormula) → members f ≡ f ∷ [] → formula_trees next ≡ formula_trees out ++ (f ∷ []) →
+  pub one_out : (f : Formula) (left out next : List DeclaredFormula) → members f ≡ f ∷ [] → formula_trees next ≡ formula_trees out ++ (f ∷ []) →
       IsSplit members f left left out next
   one_out f left out next e n =
       let p = some_size f in
@@ -50,45 +49,9 @@ module _ (members : Formula → List Formula) where
         fewer = omega arith;
       }
 
-pub nothing_and : (left out : List DeclaredFormula) → IsSplit conjuncts always left left out out
-nothing_and left out = none_left conjuncts always left out refl
-
-pub never_and : (left out next : List DeclaredFormula) → formula_trees next ≡ formula_trees out ++ (never ∷ []) → IsSplit conjuncts never left left out next
-never_and left out next n = one_out conjuncts never left out next refl n
-
-pub low_and : (r : Row) (left out next : List DeclaredFormula) → formula_trees next ≡ formula_trees out ++ (at_least r ∷ []) →
-    IsSplit conjuncts (at_least r) left left out next
-low_and r left out next n = one_out conjuncts (at_least r) left out next refl n
-
-pub zero_and : (r : Row) (left out next : List DeclaredFormula) → formula_trees next ≡ formula_trees out ++ (equal r ∷ []) →
-    IsSplit conjuncts (equal r) left left out next
-zero_and r left out next n = one_out conjuncts (equal r) left out next refl n
-
-pub or_and : (a b : Formula) (left out next : List DeclaredFormula) → formula_trees next ≡ formula_trees out ++ (either a b ∷ []) →
-    IsSplit conjuncts (either a b) left left out next
-or_and a b left out next n = one_out conjuncts (either a b) left out next refl n
-
 pub both_and : (x y : DeclaredFormula) (before mid left out : List DeclaredFormula) → mid ≡ before ++ (y ∷ []) → left ≡ mid ++ (x ∷ []) →
     IsSplit conjuncts (both (formula_tree x) (formula_tree y)) before left out out
 both_and x y before mid left out m l = two_left conjuncts (both (formula_tree x) (formula_tree y)) x y before mid left out refl refl m l
-
-pub nothing_or : (left out : List DeclaredFormula) → IsSplit disjuncts never left left out out
-nothing_or left out = none_left disjuncts never left out refl
-
-pub always_or : (left out next : List DeclaredFormula) → formula_trees next ≡ formula_trees out ++ (always ∷ []) → IsSplit disjuncts always left left out next
-always_or left out next n = one_out disjuncts always left out next refl n
-
-pub low_or : (r : Row) (left out next : List DeclaredFormula) → formula_trees next ≡ formula_trees out ++ (at_least r ∷ []) →
-    IsSplit disjuncts (at_least r) left left out next
-low_or r left out next n = one_out disjuncts (at_least r) left out next refl n
-
-pub zero_or : (r : Row) (left out next : List DeclaredFormula) → formula_trees next ≡ formula_trees out ++ (equal r ∷ []) →
-    IsSplit disjuncts (equal r) left left out next
-zero_or r left out next n = one_out disjuncts (equal r) left out next refl n
-
-pub and_or : (a b : Formula) (left out next : List DeclaredFormula) → formula_trees next ≡ formula_trees out ++ (both a b ∷ []) →
-    IsSplit disjuncts (both a b) left left out next
-and_or a b left out next n = one_out disjuncts (both a b) left out next refl n
 
 pub either_or : (x y : DeclaredFormula) (before mid left out : List DeclaredFormula) → mid ≡ before ++ (y ∷ []) → left ≡ mid ++ (x ∷ []) →
     IsSplit disjuncts (either (formula_tree x) (formula_tree y)) before left out out

@@ -147,7 +147,7 @@ fn needless_ands(alloc: Global, members: &[Formula]) -> Result<Vec<bool>, NoMemo
 
 impl Formula {
     // Adds the formula to the end, or the parts of an `and` to those that are left, where the last one is the next.
-    #[tactic(auto, using(crate::proofs::MemberCode::nothing_and, crate::proofs::MemberCode::never_and, crate::proofs::MemberCode::low_and, crate::proofs::MemberCode::zero_and, crate::proofs::MemberCode::or_and, crate::proofs::MemberCode::both_and))]
+    #[tactic(auto, using(crate::proofs::MemberCode::none_left, crate::proofs::MemberCode::one_out, crate::proofs::MemberCode::both_and))]
     fn split_and(self, left: &mut Vec<Formula>, out: &mut Vec<Formula>) -> Result<(), NoMemory>
         ensures { OnOk result (IsSplit conjuncts (formula_tree self) left.old.items left.new.items out.old.items out.new.items) }
     {
@@ -178,7 +178,7 @@ impl Formula {
     }
 
     // Adds the formula to the end, or the parts of an `or` to those that are left, where the last one is the next.
-    #[tactic(auto, using(crate::proofs::MemberCode::nothing_or, crate::proofs::MemberCode::always_or, crate::proofs::MemberCode::low_or, crate::proofs::MemberCode::zero_or, crate::proofs::MemberCode::and_or, crate::proofs::MemberCode::either_or))]
+    #[tactic(auto, using(crate::proofs::MemberCode::none_left, crate::proofs::MemberCode::one_out, crate::proofs::MemberCode::either_or))]
     fn split_or(self, left: &mut Vec<Formula>, out: &mut Vec<Formula>) -> Result<(), NoMemory>
         ensures { OnOk result (IsSplit disjuncts (formula_tree self) left.old.items left.new.items out.old.items out.new.items) }
     {
