@@ -1,10 +1,11 @@
 -- What the answers of a branch say, where the branch fits what is asked.
-use Rattle.std.proofs.Common.{inl, inr, ◌≡◌, ◌<◌, ℕ, true, Option, Some, None, List, [], ◌∷◌, ◌++◌, length, refl, subst, sym}
+use Rattle.std.proofs.Common.{inl, inr, ◌≡◌, ◌≢◌, ◌∙◌, ◌<◌, ◌&&◌, ℕ, true, false, true≢false, Option, Some, None, List, [], ◌∷◌, ◌++◌, length, ap₂, refl, subst, sym}
 use Rattle.cf_tree.specs.declared.base.Base.{Base}
 use Rattle.cf_tree.specs.Occurs.{rel_holds}
 use Rattle.cf_tree.specs.Relation.{Sol}
 use Rattle.cf_tree.specs.RelTree.{RelTree}
-use Rattle.cf_tree.specs.Values.{Value, HaveBases}
+use Rattle.cf_tree.specs.Values.{Value, number, truth, elements, same_value, HaveBases}
+use Rattle.cf_tree.proofs.SetLemmas.{eq_same, same_list-iff}
 use Rattle.cf_linear.specs.declared.refusal.Refusal.{Refusal}
 use Rattle.cf_linear.specs.Chooses.{limit}
 use Rattle.cf_linear.proofs.PassingLemmas.{or_right}
@@ -16,7 +17,7 @@ use Rattle.cf_warn.specs.declared.answer.ExistenceAnswer.{ExistenceAnswer}
 use Rattle.cf_warn.specs.declared.answer.ExistenceAnswer.TheVariants as existence
 use Rattle.cf_warn.specs.declared.answer.UniquenessAnswer.{UniquenessAnswer}
 use Rattle.cf_warn.specs.declared.answer.UniquenessAnswer.TheVariants as uniqueness
-use Rattle.cf_answer.specs.Tells.{Fits, HasNone, IsCondition, IsGivenOut, IsNamed, IsOfTwo, IsSample, TellsExistenceIn, TellsUniquenessIn, is_named}
+use Rattle.cf_answer.specs.Tells.{Fits, HasNone, IsCondition, IsGivenOut, IsNamed, IsOfTwo, IsSample, TellsExistenceIn, TellsUniquenessIn, is_named, same_values}
 use Rattle.cf_answer.specs.ToldChecks.{Asked, IsBranchExistence, IsBranchUniqueness, IsWithinExistence, IsWithinUniqueness, NamesExistence, NamesUniqueness, at_rest, existence_question, named_sample, shown_values, unless}
 use Rattle.cf_answer.proofs.HoldingLemmas.{held_unless, holds_behind}
 use Rattle.cf_answer.proofs.NamedLemmas.{has_rest, named_at, named_somewhere, named_truths}
@@ -56,6 +57,20 @@ allowed_solved scope (Some p) c env xs have allowed = (holds_behind scope p c en
 asked_too : (given : Option RelTree) (r : RelTree) (x : ℕ) → rel_holds x r ≡ true → rel_holds x (unless given r) ≡ true
 asked_too None r x h = h
 asked_too (Some p) r x h = or_right (rel_holds x p) (rel_holds x r) h
+
+-- ---- values that differ
+same_itself : (v : Value) → same_value v v ≡ true
+same_itself (number x) = eq_same x x refl
+same_itself (truth true) = refl
+same_itself (truth false) = refl
+same_itself (elements zs) = (same_list-iff zs zs).1 refl
+
+same_values_itself : (vs : List Value) → same_values vs vs ≡ true
+same_values_itself [] = refl
+same_values_itself (v ∷ vs) = ap₂ (λ a b. a && b) (same_itself v) (same_values_itself vs)
+
+pub values_differ : (vs ws : List Value) → same_values vs ws ≡ false → vs ≢ ws
+values_differ vs ws no e = true≢false (sym (same_values_itself vs) ∙ subst (λ us. same_values vs us ≡ false) (sym e) no)
 
 -- ---- what the answers say
 module _ (a : Asked) (b : ToldBranch) (fit : Fits a b) where
