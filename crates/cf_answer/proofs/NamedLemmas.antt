@@ -17,7 +17,7 @@ use Rattle.cf_warn.specs.Questions.{base_at, parameters, parameter_bases}
 use Rattle.cf_warn.specs.Solutions.{IsAt}
 use Rattle.cf_warn.proofs.ParameterLaws.{each_filtered}
 use Rattle.cf_answer.specs.Tells.{IsNamed, is_named, is_truth, are_truths}
-use Rattle.cf_answer.specs.ToldChecks.{Asked, at_rest, beside, named_value, truth_or}
+use Rattle.cf_answer.specs.ToldChecks.{Asked, at_rest, beside, named_sample, named_value, truth_or}
 
 -- ---- lists of levels
 map_each : (f g : ℕ → Value) → ((x : ℕ) → f x ≡ g x) → (xs : List ℕ) → map f xs ≡ map g xs
@@ -158,7 +158,7 @@ module _ (a : Asked) (truths : Branch) (rel : RelTree) (sample : List Value) (ar
             get_or_past env_of x (number (pos 0)) (omega arith) ∙ sym (name_past x l)
       ]
 
-  pub named_somewhere : (env : List Value) × IsNamed a (map name a.levels) env
+  pub named_somewhere : (env : List Value) × IsNamed a (named_sample a.scope a.levels truths rel sample) env
   named_somewhere = (
     env_of,
     record {
@@ -168,7 +168,7 @@ module _ (a : Asked) (truths : Branch) (rel : RelTree) (sample : List Value) (ar
   )
 
   -- ---- where the sample is named
-  module _ (env : List Value) (n : IsNamed a (map name a.levels) env) where
+  module _ (env : List Value) (n : IsNamed a (named_sample a.scope a.levels truths rel sample) env) where
     pub named_truths : (x : ℕ) (t : Bool) → values_in truths x ≡ Some t → value_at env x ≡ truth t
     named_truths x t e =
         same_at (value_at env) name a.levels n.same x (truth_named a truths are x t e) ∙ ap (λ o. truth_or o (own x)) e
