@@ -46,7 +46,7 @@ outputs_allowed : (scope outputs : List Base) (given : Option RelTree) (r : RelT
     Allows given env → (xs : List Value) → Sol outputs (unless given r) env xs → Sol outputs r env xs
 outputs_allowed scope outputs None r c env have allowed xs s = s
 outputs_allowed scope outputs (Some p) r c env have allowed xs s =
-    elim s.1 [ inl no ↦ absurd (no ((holds_behind scope p c env xs have).1 allowed)) | inr yes ↦ (s.0, yes) ]
+    elim s.1 [ inl fails ↦ absurd (fails ((holds_behind scope p c env xs have).1 allowed)) | inr yes ↦ (s.0, yes) ]
 
 -- where it holds for some outputs it holds
 allowed_solved : (scope : List Base) (given : Option RelTree) → IsCondition scope given → (env xs : List Value) → HaveBases scope env →
@@ -70,7 +70,7 @@ same_values_itself [] = refl
 same_values_itself (v ∷ vs) = ap₂ (λ a b. a && b) (same_itself v) (same_values_itself vs)
 
 pub values_differ : (vs ws : List Value) → same_values vs ws ≡ false → vs ≢ ws
-values_differ vs ws no e = true≢false (sym (same_values_itself vs) ∙ subst (λ us. same_values vs us ≡ false) (sym e) no)
+values_differ vs ws other e = true≢false (sym (same_values_itself vs) ∙ subst (λ us. same_values vs us ≡ false) (sym e) other)
 
 -- ---- what the answers say
 module _ (a : Asked) (b : ToldBranch) (fit : Fits a b) where

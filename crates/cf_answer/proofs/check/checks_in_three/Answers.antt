@@ -43,5 +43,5 @@ returns c =
       s.is,
       subst (λ e. AreChecks e told s.typed c.in_ok-checks.checks.text.items c.in_ok-checks.checks.answered) (sym c.requires.edition)
           (rw c.chooses.ensures at c.in_ok-checks.ensures Three c.args.text.now s
-              (conditions_held c.args.text.now c.in_ok-formed.formed c.in_ok-formed.ensures)),
+          (conditions_held c.args.text.now c.in_ok-formed.formed c.in_ok-formed.ensures)),
     )
