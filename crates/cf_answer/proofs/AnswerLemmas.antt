@@ -495,7 +495,7 @@ through_ends job before after who end answer by is (whole mid r e took) =
       r.runs.1,
       wrote_by job before after Appends r.front (lines r.front) (closing job.command job.passes) text who by r.read r.runs.2.1
           (Appends-trans before.out.held mid after.out.held text (closing job.command job.passes) r.runs.2.2 (subst (Appends mid after.out.held) is took)),
-      reads_done job.command job.files text by.reads,
+      reads_done job.command job.files _ by.reads,
     )
 
 runs_other : (who : Replier) (most : Option ℕ) (left still_left old new : Option (List ℕ)) (f : Fault) → RunsOn who most left still_left old new (Err f) →

@@ -46,7 +46,7 @@ outputs_allowed : (scope outputs : List Base) (given : Option RelTree) (r : RelT
     Allows given env → (xs : List Value) → Sol outputs (unless given r) env xs → Sol outputs r env xs
 outputs_allowed scope outputs None r c env have allowed xs s = s
 outputs_allowed scope outputs (Some p) r c env have allowed xs s =
-    elim s.1 [ inl fails ↦ absurd (fails ((holds_behind scope p c env xs have).1 allowed)) | inr yes ↦ (s.0, yes) ]
+    elim s.1 [ inl fails ↦ absurd (fails ((holds_behind scope p c env xs have).1 allowed)) | inr solved ↦ (s.0, solved) ]
 
 -- where it holds for some outputs it holds
 allowed_solved : (scope : List Base) (given : Option RelTree) → IsCondition scope given → (env xs : List Value) → HaveBases scope env →

@@ -196,6 +196,15 @@ plus_assoc a b c = omega arith
 unmet_alone : (u : Unmet) → with_unmet u nothing_unmet ≡ u
 unmet_alone u = λ i. record { no = no_more u.no i; undecided = no_more u.undecided i }
 
+none_before : (n : ℕ) → 0 + n ≡ n
+none_before n = omega arith
+
+unmet_behind : (u : Unmet) → with_unmet nothing_unmet u ≡ u
+unmet_behind u = λ i. record { no = none_before u.no i; undecided = none_before u.undecided i }
+
+behind_nothing : (a : Answered) → with_answered nothing_answered a ≡ a
+behind_nothing a = λ i. answered (unmet_behind a.existence i) (unmet_behind a.uniqueness i)
+
 alone : (a : Answered) → with_answered a nothing_answered ≡ a
 alone a = λ i. answered (unmet_alone a.existence i) (unmet_alone a.uniqueness i)
 
@@ -220,7 +229,8 @@ module _ (edition : Edition) (matches : List MatchTree) (told : List ToldChoose)
     qs,
     h,
     λ more there w. subst (λ t. AreChecksBehind edition matches told 0 qs (t ++ more) (with_answered a there)) (sym is)
-        (subst (λ b. AreChecksBehind edition matches told 0 qs more (with_answered b there)) (sym none) w),
+        (subst (λ b. AreChecksBehind edition matches told 0 qs more (with_answered b there)) (sym none)
+        (subst (AreChecksBehind edition matches told 0 qs more) (sym (behind_nothing there)) w)),
   )
 
   walk_next : (before : ℕ) (s : SolvedChoose) (ss : List SolvedChoose) (text new : List ℕ) (a here : Answered) →
