@@ -266,7 +266,7 @@ fn put_rejected<E: Sink>(
     put_pieces(err, &pieces)
 }
 
-fn answers_verb(count: u32) -> &'static [u8]
+fn answers_verb<'x>(count: u32) -> &'x [u8]
     ensures { result.now ≡ the_answers_verb count }
 {
     if count == 1 {
