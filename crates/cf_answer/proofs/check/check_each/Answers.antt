@@ -9,7 +9,7 @@ loop-choose-init c =
     let empty : c.new-text.result.items ≡ [] = search rules in
     λ edition qs s conditions.
     walk_start edition (map match_tree c.args.matches.now.infos.now) (map told_choose c.args.told.now) qs c.args.chooses.now _ _ empty
-    c.nothing_answered.ensures s
+    c.nothing_answered-answered.ensures s
 
 pub loop-choose-preserved : goal.loop-choose-preserved
 loop-choose-preserved c =
