@@ -434,57 +434,127 @@ const examples = [
   "name": "quotient",
   "group": "Tasks",
   "title": "quotient: Coefficients that are inputs",
-  "source": "# The number that a times gives b.\ndef main(a: int, b: int): int = choose (x: int) where a * x == b\n",
+  "source": "comfusy 3\n# The number that a times gives b.\ndef main(a: int, b: int): int = choose (x: int) where a * x == b\n",
   "lines": "3 12\n3 10\n0 5\n0 0\n-4 12\n"
  },
  {
   "name": "anystamps",
   "group": "Tasks",
   "title": "anystamps: Coefficients that are inputs",
-  "source": "# Stamps of p and of q for a letter of a cents: the values of the stamps stand in the line.\ndef main(p: int, q: int, a: int): (int, int) =\n  choose (x: int, y: int) where p * x + q * y == a && 0 <= x && 0 <= y\n",
+  "source": "comfusy 3\n# Stamps of p and of q for a letter of a cents: the values of the stamps stand in the line.\ndef main(p: int, q: int, a: int): (int, int) =\n  choose (x: int, y: int) where p * x + q * y == a && 0 <= x && 0 <= y\n",
   "lines": "3 5 8\n3 5 7\n7 9 100\n0 5 10\n0 0 10\n170141183460469231731687303715884105727 5 8\n3 5 1000000\n"
  },
  {
-  "name": "combination",
+  "name": "any-sum",
   "group": "Tasks",
-  "title": "combination: Coefficients that are inputs",
-  "source": "# p times x and q times y, which together lie from a to b.\ndef main(p: int, q: int, a: int, b: int): (int, int) =\n  choose (x: int, y: int) where a <= p * x + q * y && p * x + q * y <= b\n",
+  "title": "any-sum: Coefficients that are inputs",
+  "source": "comfusy 3\n# p times x and q times y, which together lie from a to b.\ndef main(p: int, q: int, a: int, b: int): (int, int) = choose (x: int, y: int) where a <= p * x + q * y <= b\n",
   "lines": "2 3 7 7\n2097152 2097153 0 9\n3 5 7 7\n"
  },
  {
-  "name": "gap",
+  "name": "week-short",
   "group": "When check complains",
-  "title": "gap: no outputs for",
-  "source": "comfusy 3\n# No x is left for 5.\ndef main(a: int): int = choose (x: int) where x == a && a != 5\n",
-  "lines": "4\n5\n"
+  "title": "week-short: no outputs for",
+  "source": "comfusy 3\n# The week of the month in which a day lies: week 1 has the days 1 to 7.\ndef main(day: int): int = choose (week: int) given 1 <= day <= 31 where 7 * (week - 1) < day < 7 * week\n",
+  "lines": "1\n6\n7\n8\n31\n"
  },
  {
-  "name": "filled",
+  "name": "week",
   "group": "When check complains",
-  "title": "filled: no outputs for",
-  "source": "comfusy 3\n# The same with an answer for 5 too.\ndef main(a: int): int = choose (x: int) where if a == 5 then x == 0 else x == a\n",
-  "lines": "4\n5\n"
+  "title": "week: no outputs for",
+  "source": "comfusy 3\n# The same, with the last day of each week.\ndef main(day: int): int = choose (week: int) given 1 <= day <= 31 where 7 * (week - 1) < day <= 7 * week\n",
+  "lines": "1\n6\n7\n8\n31\n32\n"
  },
  {
-  "name": "asked",
+  "name": "tries-late",
   "group": "When check complains",
-  "title": "asked: no outputs for",
-  "source": "comfusy 3\n# The same, asked of all numbers but 5.\ndef main(a: int): int = choose (x: int) given a != 5 where x == a\n",
-  "lines": "4\n5\n"
+  "title": "tries-late: no outputs for",
+  "source": "comfusy 3\n# When to try again, and once more: after a pause of at least 30 seconds each time, and within 50 seconds of the failure.\ndef main(failed: int): (int, int) =\n  choose (second: int, third: int) where failed + 30 <= second && second + 30 <= third <= failed + 50\n",
+  "lines": "0\n1000\n"
  },
  {
-  "name": "loose",
+  "name": "tries",
   "group": "When check complains",
-  "title": "loose: two outputs for",
-  "source": "comfusy 3\n# Both 0 and 1 will do for 1, and nothing for 2.\ndef main(a: int): int = choose (x: int) where 0 <= x <= a <= 1\n",
-  "lines": "0\n1\n2\n-1\n"
+  "title": "tries: no outputs for",
+  "source": "comfusy 3\n# The same, within 90 seconds of the failure.\ndef main(failed: int): (int, int) =\n  choose (second: int, third: int) where failed + 30 <= second && second + 30 <= third <= failed + 90\n",
+  "lines": "0\n1000\n"
  },
  {
-  "name": "held",
+  "name": "pages-loose",
   "group": "When check complains",
-  "title": "held: two outputs for",
-  "source": "comfusy 3\n# One number for each a: a itself, held between 0 and 1.\ndef main(a: int): int = choose (x: int) where x == max(0, min(a, 1))\n",
-  "lines": "0\n1\n2\n-1\n"
+  "title": "pages-loose: two outputs for",
+  "source": "comfusy 3\n# How many pages a list of so many rows takes, with 20 rows on a page.\ndef main(rows: int): int = choose (pages: int) where rows <= 20 * pages\n",
+  "lines": "0\n1\n20\n21\n"
+ },
+ {
+  "name": "pages",
+  "group": "When check complains",
+  "title": "pages: two outputs for",
+  "source": "comfusy 3\n# The same, with no page too many.\ndef main(rows: int): int = choose (pages: int) where 20 * (pages - 1) < rows <= 20 * pages\n",
+  "lines": "0\n1\n20\n21\n"
+ },
+ {
+  "name": "tariff-twice",
+  "group": "When check complains",
+  "title": "tariff-twice: two outputs for",
+  "source": "comfusy 3\n# The postage of a letter in cents, by its weight in grams.\ndef main(grams: int): int =\n  choose (cents: int) given 0 < grams <= 500\n  where grams <= 20 && cents == 85 || 20 <= grams <= 50 && cents == 100 || 50 < grams && cents == 160\n",
+  "lines": "1\n20\n21\n500\n"
+ },
+ {
+  "name": "tariff",
+  "group": "When check complains",
+  "title": "tariff: two outputs for",
+  "source": "comfusy 3\n# The same, with one price for each weight.\ndef main(grams: int): int =\n  choose (cents: int) given 0 < grams <= 500\n  where grams <= 20 && cents == 85 || 20 < grams <= 50 && cents == 100 || 50 < grams && cents == 160\n",
+  "lines": "1\n20\n21\n500\n501\n"
+ },
+ {
+  "name": "schedule-fixed",
+  "group": "When check complains",
+  "title": "schedule-fixed: What no line says",
+  "source": "comfusy 3\n# The next minute at which a job starts: each 15 minutes, shifted by so many minutes.\ndef main(now: int, shift: int): int = choose (start: int) where 15 divides start && now <= start < now + 15\n",
+  "lines": "100 0\n100 5\n"
+ },
+ {
+  "name": "schedule",
+  "group": "When check complains",
+  "title": "schedule: What no line says",
+  "source": "comfusy 3\n# The same, with a start that is shifted.\ndef main(now: int, shift: int): int = choose (start: int) where 15 divides start - shift && now <= start < now + 15\n",
+  "lines": "100 0\n100 5\n"
+ },
+ {
+  "name": "ways",
+  "group": "When check complains",
+  "title": "ways: What given says",
+  "source": "comfusy 3\n# A ticket is 3 up to 17 years, and 5 from 18 on. No age is below 0, which is said in three ways.\ndef price(age: int, p: int): bool = if age < 18 then p == 3 else p == 5\n\ndef main(way: int, age: int): int =\n  if way == 1 then choose (p: int) given age >= 0 where price(age, p)\n  else if way == 2 then choose (p: int) where age >= 0 && price(age, p)\n  else choose (p: int) where age >= 0 ==> price(age, p)\n",
+  "lines": "1 -1\n2 -1\n3 -1\n"
+ },
+ {
+  "name": "tens-doubt",
+  "group": "When check complains",
+  "title": "tens-doubt: existence undecided",
+  "source": "comfusy 3\n# Cents rounded to tens: in the middle between two tens, to the even one.\ndef main(cents: int): int =\n  choose (tens: int) where abs(cents - 10 * tens) <= 5 && (abs(cents - 10 * tens) == 5 ==> 2 divides tens)\n",
+  "lines": "14\n15\n25\n-15\n"
+ },
+ {
+  "name": "tens",
+  "group": "When check complains",
+  "title": "tens: existence undecided",
+  "source": "comfusy 3\n# The same, with ranges in the place of abs.\ndef main(cents: int): int =\n  choose (tens: int) where -5 < cents - 10 * tens < 5 || -5 <= cents - 10 * tens <= 5 && 2 divides tens\n",
+  "lines": "14\n15\n25\n-15\n"
+ },
+ {
+  "name": "colour-doubt",
+  "group": "When check complains",
+  "title": "colour-doubt: uniqueness undecided",
+  "source": "comfusy 3\n# A colour that is one number, taken apart into red, green and blue.\ndef main(colour: int): (int, int, int) =\n  choose (red: int, green: int, blue: int) given 0 <= colour < 16777216\n  where 65536 * red + 256 * green + blue == colour && 0 <= green < 256 && 0 <= blue < 256\n",
+  "lines": "0\n16777215\n66051\n-1\n"
+ },
+ {
+  "name": "colour",
+  "group": "When check complains",
+  "title": "colour: uniqueness undecided",
+  "source": "comfusy 3\n# The same, with a name for red and green together.\ndef main(colour: int): (int, int, int) =\n  choose (red: int, green: int, blue: int; high: int) given 0 <= colour < 16777216\n  where 256 * high + blue == colour && 256 * red + green == high && 0 <= green < 256 && 0 <= blue < 256\n",
+  "lines": "0\n16777215\n66051\n-1\n"
  },
  {
   "name": "beyond",
@@ -551,6 +621,13 @@ const examples = [
   "group": "Refused",
   "title": "single-equals",
   "source": "comfusy 3\ndef main(a: int): int = choose (x: int) where x = a\n",
+  "lines": ""
+ },
+ {
+  "name": "refused-nameless",
+  "group": "Refused",
+  "title": "nameless",
+  "source": "comfusy 3\ndef double(a: int): int = 2 * a\n",
   "lines": ""
  },
  {
@@ -691,13 +768,6 @@ const examples = [
   "group": "Refused",
   "title": "below",
   "source": "comfusy 3\ndef main(a: int): int = double(a)\ndef double(a: int): int = 2 * a\n",
-  "lines": ""
- },
- {
-  "name": "refused-nameless",
-  "group": "Refused",
-  "title": "nameless",
-  "source": "comfusy 3\ndef double(a: int): int = 2 * a\n",
   "lines": ""
  },
  {
@@ -937,6 +1007,13 @@ const examples = [
   "title": "one",
   "source": "# One number for each a: a itself, held between 0 and 1.\ndef main(a: int): int =\n  choose (x: int) where (a < 0 && x == 0) || (0 <= a && a <= 1 && x == a) || (a > 1 && x == 1)\n",
   "lines": "0\n1\n2\n-1\n"
+ },
+ {
+  "name": "combination",
+  "group": "Language 2",
+  "title": "combination",
+  "source": "# p times x and q times y, which together lie from a to b.\ndef main(p: int, q: int, a: int, b: int): (int, int) =\n  choose (x: int, y: int) where a <= p * x + q * y && p * x + q * y <= b\n",
+  "lines": "2 3 7 7\n2097152 2097153 0 9\n3 5 7 7\n"
  },
  {
   "name": "outside",

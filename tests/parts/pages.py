@@ -2,7 +2,7 @@
 
 A page quotes a command behind `$ ` in a block, and below it what the command writes. `cat` on a file of an example, `./comfusy` on such a file, and the
 `echo $?` behind one are done as they stand there, and what they write is compared. A command that reads lines reads those of its example. Commands that write
-files stand in docs/SCALE.md, whose part does them.
+files, those on such files, and those with a pipe stand in docs/SCALE.md, whose part does them, and in the chapters of the guide that the part `scripts` does.
 """
 
 from __future__ import annotations
@@ -23,6 +23,8 @@ NAMING = ("docs/GUIDE.md", "docs/LANGUAGE.md")
 DEFINING = ("docs/DEFINITIONS.md", "docs/DEFINITIONS-elimination.md", "docs/THEOREM.md", "docs/PROVED.md")
 LINK = re.compile(r"\]\((?!https?:)([^)#\s]*)#?([^)\s]*)\)")
 DEFINITION = re.compile(r"`([A-Z]\w+)\.([A-Za-z_]\w*)")
+FOR_A_SHELL = re.compile(r" (>|\|) ")
+ON_AN_EXAMPLE = re.compile(r"[a-z]+ (?:--[a-z]+ )*examples/")
 READING = re.compile(r"(?:run|exec) (examples/[a-z-]+)\.[a-z]+ < (examples/[a-z-]+)\.in")
 
 
@@ -78,7 +80,7 @@ def try_page(page: str, room: Room) -> Iterator[Check]:
         status = None
         if start == "cat" and words.startswith("examples/"):
             yield equal(f"{place}: {quote.command}", (quote.text, examples.text_of(ROOT / words).decode()))
-        elif start == "./comfusy" and " examples/" in words and " > " not in words:
+        elif start == "./comfusy" and ON_AN_EXAMPLE.match(words) and not FOR_A_SHELL.search(words):
             seen = done(words, room)
             status = seen.status
             wrote = (seen.out + seen.err).decode()

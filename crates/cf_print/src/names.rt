@@ -11,7 +11,7 @@ use std::alloc::Global;
 const UNDERSCORE: u8 = b'_';
 
 // Whether a text begins with another.
-fn begins(part: &[u8], text: &[u8]) -> bool
+pub(crate) fn begins(part: &[u8], text: &[u8]) -> bool
     ensures { result ≡ begins_with part.now text.now }
 {
     if text.len() < part.len() {
@@ -77,7 +77,7 @@ fn are_of_names(bytes: &[u8]) -> bool
     true
 }
 
-fn stands_in_name(byte: u8) -> bool
+pub(crate) fn stands_in_name(byte: u8) -> bool
     ensures { result ≡ stands_in_names byte }
 {
     is_letter(byte) || is_digit(byte)

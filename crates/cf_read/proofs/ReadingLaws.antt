@@ -15,7 +15,7 @@ use Rattle.cf_venn.specs.Columns.{column_values}
 use Rattle.cf_venn.proofs.SolvingLaws.{held_by_counts}
 use Rattle.cf_choose.specs.declared.fault.ChooseFault.{ChooseFault}
 use Rattle.cf_close.specs.Problems.{Problem, HasNone}
-use Rattle.cf_read.specs.declared.reading.Question.{Question}
+use Rattle.cf_read.specs.declared.reading.RelationProblem.{RelationProblem}
 use Rattle.cf_read.specs.Reading.{NeverHolds}
 use Rattle.cf_read.specs.Systems.{IsProblemOf}
 use Rattle.cf_read.proofs.SystemLaws.{problem_solved}
@@ -38,7 +38,7 @@ never_holds scope outputs rel p typed linear is none = record {
 }
 
 -- the question that was made of the first systems
-pub read_from : (scope outputs : List Base) (rel : RelTree) (l : Layout) (systems : List System) (answer : Result Question ChooseFault) →
+pub read_from : (scope outputs : List Base) (rel : RelTree) (l : Layout) (systems : List System) (answer : Result RelationProblem ChooseFault) →
     l ≡ layout_of scope outputs rel → systems ≡ first_systems l rel → IsTyped (scope ++ outputs) rel → IsLinear rel →
     IfOk answer (λ q. IsProblemOf systems q.problem) → IfOk answer (λ q. HasNone q.problem → NeverHolds scope outputs rel)
 read_from scope outputs rel l systems (Ok q) e f typed linear is =

@@ -4,4 +4,4 @@
 mod conjunctions;
 mod reading;
 
-pub use crate::reading::{Question, read};
+pub use crate::reading::{RelationProblem, read};

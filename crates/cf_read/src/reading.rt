@@ -17,7 +17,7 @@ use std::alloc::Global;
 
 /// A problem of which a relation makes a solution wherever it holds, and a column that is behind all of its columns.
 #[derive(Drop)]
-pub struct Question {
+pub struct RelationProblem {
     pub problem: Problem,
     pub columns: u32,
 }
@@ -33,7 +33,7 @@ pub fn read(
     scope: &[Base],
     outputs: &[Base],
     rel: &Rel,
-) -> Result<Question, ChooseFault>
+) -> Result<RelationProblem, ChooseFault>
     requires typed { IsTyped (scope.now ++ outputs.now) (rel_tree rel.now) }
     requires linear { IsLinear (rel_tree rel.now) }
     ensures { IfOk result (λ q. HasNone q.problem → NeverHolds scope.now outputs.now (rel_tree rel.now)) }
@@ -49,19 +49,19 @@ pub fn read(
         return Err(fault);
     }
     match systems(alloc, &layout, rel) {
-        Ok(systems) => question_of(alloc, systems),
+        Ok(systems) => relation_problem(alloc, systems),
         Err(RowFault::Past) => Err(ChooseFault::Refused(Refusal::Past)),
         Err(RowFault::NoMemory) => Err(ChooseFault::NoMemory),
     }
 }
 
-// The question whether one of the systems is satisfied.
-fn question_of(alloc: Global, systems: Vec<System>) -> Result<Question, ChooseFault>
-    ensures { IfOk result (λ q. IsProblemOf (map system_of systems.items) q.problem) }
+// The problem whether one of the systems is satisfied.
+fn relation_problem(alloc: Global, systems: Vec<System>) -> Result<RelationProblem, ChooseFault>
+    ensures { IfOk result (λ p. IsProblemOf (map system_of systems.items) p.problem) }
 {
     let columns = column_behind(&systems);
     match problem_of(alloc, &systems) {
-        Ok(problem) => Ok(Question { problem, columns }),
+        Ok(problem) => Ok(RelationProblem { problem, columns }),
         Err(_) => Err(ChooseFault::NoMemory),
     }
 }

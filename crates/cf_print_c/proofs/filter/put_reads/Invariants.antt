@@ -1,0 +1,6 @@
+use Rattle.std.proofs.Common.{◌≡◌, ◌++◌, drop, true}
+use Rattle.cf_print_c.specs.Files.{reads}
+use Rattle.cf_print_c.proofs.filter.put_reads.Given as goal
+
+abbrev pub invariant-loop-name : goal.invariant-loop-name
+invariant-loop-name l = l.out.items ++ reads l.is_first (drop l.name-index l.names) l.left ≡ l.fn.out.items ++ reads true l.names l.bases

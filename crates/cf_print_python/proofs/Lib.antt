@@ -1,0 +1,2 @@
+pub mod FilterExamples
+pub mod OpeningExamples

@@ -1,0 +1,8 @@
+use Rattle.std.proofs.Common.{◌≡◌, ◌++◌, drop}
+use Rattle.cf_stmt.specs.BlockView.{block_tree}
+use Rattle.cf_print_shape.specs.Shapes.{those_read}
+use Rattle.cf_print_shape.proofs.results.bases_read.Given as goal
+
+abbrev pub invariant-loop-base : goal.invariant-loop-base
+invariant-loop-base l =
+    l.all.items ++ those_read l.level (block_tree l.block) (drop l.base-index l.bases) ≡ those_read 0 (block_tree l.block) l.bases

@@ -1,0 +1,4 @@
+pub mod Shapes
+pub mod Sets
+pub mod Nones
+pub mod Wishes

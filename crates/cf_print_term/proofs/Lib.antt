@@ -1,0 +1,5 @@
+pub mod TermLists
+pub mod NumeralLists
+pub mod ReadsBack
+pub mod TermExamples
+pub mod SignExamples
