@@ -38,5 +38,6 @@ pub mod TightLaws
 pub mod TightLemmas
 pub mod TightRows
 pub mod TurnLaws
+pub mod WritingCode
 pub mod WritingExamples
 pub mod WritingLaws

@@ -1,5 +1,5 @@
 -- Relations as formulas in the program: where a number passes the limit, and what the calls answer.
-use Rattle.std.specs.Prelude.{◌≡◌, ℕ, ◌+◌, ◌-◌, ◌==◌, nat_lt, nat_le, ℤ, pos, negsuc, neg_ℤ, ◌*ℤ◌, List, [], ◌∷◌, ◌++◌, map, Bool, true, false, ◌&&◌, ◌||◌, if◌then◌else◌, Option, Some, None, Result, Ok, Err}
+use Rattle.std.specs.Prelude.{◌≡◌, ℕ, ◌+◌, ◌-◌, ◌*◌, ◌^◌, ◌==◌, nat_lt, nat_le, ℤ, pos, negsuc, neg_ℤ, ◌*ℤ◌, List, [], ◌∷◌, ◌++◌, map, Bool, true, false, ◌&&◌, ◌||◌, if◌then◌else◌, Option, Some, None, Result, Ok, Err}
 use Rattle.std.specs.List.{fold, range_with_len}
 use Rattle.cf_tree.specs.declared.base.Order.{Order}
 use Rattle.cf_tree.specs.declared.base.Order.TheVariants.{Eq, Ne, Lt, Le, Gt, Ge}
@@ -13,6 +13,7 @@ use Rattle.cf_linear.specs.Parts.{IsRowFault}
 use Rattle.cf_linear.specs.Rows.{Row, entry, comb, comb_passes, passes, row_passes}
 use Rattle.cf_linear.specs.Written.{write, plus, abs_count}
 use Rattle.cf_cases.specs.declared.system_builder.SystemBuilder.{SystemBuilder}
+use Rattle.cf_cases.specs.Counts.{order_as, order_ways}
 use Rattle.cf_cases.specs.SystemBuilders.{rows_of}
 use Rattle.cf_formula.specs.declared.flat.Flat.{Flat as DeclaredFlat}
 use Rattle.cf_formula.specs.declared.formula.Formula.{Formula as DeclaredFormula}
@@ -45,6 +46,19 @@ atom_in (normal_and p q) = atom_true
 atom_in (normal_or p q) = atom_true
 
 -- ---- the ways of an atom
+-- how many ways such a relation, or its negation, has
+abbrev pub way_count : Bool → RelTree → ℕ
+way_count d rel_true = 1
+way_count d rel_false = 1
+way_count d (rel_compare o a b) = order_ways (order_as d o) * 2 ^ (abs_count a + abs_count b)
+way_count d (rel_same_set a b) = 1
+way_count d (rel_other_set a b) = 1
+way_count d (rel_subset a b) = 1
+way_count d (rel_divides k t) = 2 ^ abs_count t
+way_count d (rel_and p q) = 0
+way_count d (rel_or p q) = 0
+way_count d (rel_not p) = 0
+
 abbrev pub empty_rows : ℕ → AtomRows
 empty_rows next = record { equations = []; inequalities = []; next = next; passes = false }
 
@@ -213,6 +227,11 @@ abbrev pub FlatFormulaAnswer : Bool → Option Formula → Result (Option Declar
 FlatFormulaAnswer b o (Ok (Some f)) = (o ≡ Some (formula_tree f)) × (b ≡ false)
 FlatFormulaAnswer b o (Ok None) = (o ≡ None) × (b ≡ false)
 FlatFormulaAnswer b o (Err e) = IsRowFault b e
+
+-- the number, or Past exactly where it passes the limit
+abbrev pub NumberAnswer : ℤ → Result ℤ RowFault → Type 0
+NumberAnswer z (Ok n) = (n ≡ z) × (passes z ≡ false)
+NumberAnswer z (Err e) = IsRowFault (passes z) e
 
 -- k times the value, unless the form has an `abs`
 abbrev pub ScaledAnswer : Layout → TermTree → ℤ → Result (Option ℤ) RowFault → Type 0

@@ -1,18 +1,18 @@
 //! Comparisons of number forms with few absolute values.
-ghost use Rattle.std.specs.Prelude.{◌≡◌, ◌+◌, ◌<◌, ◌≤◌, ◌^◌, ◌||◌, Some, None, ◌++◌, ◌∷◌, [], ℤ, pos, negsuc, neg_ℤ, nat_lt, nat_le, int_lt, ◌&&◌, not, false, true, filter, map, IfOk, IfSome, OnOk, if◌then◌else◌};
+ghost use Rattle.std.specs.Prelude.{◌≡◌, ◌+◌, ◌<◌, ◌≤◌, ◌^◌, ◌||◌, Some, None, ◌++◌, ◌∷◌, [], ℤ, pos, negsuc, neg_ℤ, ◌*ℤ◌, nat_lt, nat_le, int_lt, ◌&&◌, not, false, true, filter, map, IfOk, IfSome, OnOk, if◌then◌else◌};
 ghost use Rattle.cf_num.specs.Limit.{IsWithin};
 ghost use Rattle.cf_tree.specs.RelView.{term_tree};
 ghost use Rattle.cf_tree.specs.Relation.{is_fixed, IsLinearTerm};
 ghost use Rattle.cf_linear.specs.declared.refusal.TheConstants.{MOST_SETS};
 ghost use Rattle.cf_linear.specs.Layout.{set_count, first_free};
-ghost use Rattle.cf_linear.specs.Rows.{comb, comb_passes};
+ghost use Rattle.cf_linear.specs.Rows.{entry, comb, comb_passes};
 ghost use Rattle.cf_linear.specs.Views.{plain_layout};
 ghost use Rattle.cf_linear.specs.Written.{IsPlaced, abs_count, quotient_count, plus};
 ghost use Rattle.cf_formula.specs.Answers.{SubstAnswer, FormulaAnswer};
 ghost use Rattle.cf_formula.specs.FormulaView.{formula_tree};
 ghost use Rattle.cf_formula.specs.Writing.{plain_row, is_plain, with_plain, flattened, with_abs, in_order, turned_parts, compared, flat_difference};
 ghost use Rattle.cf_formula.specs.WritingAnswers.{flat_of, plain_passes, with_plain_passes, flattened_passes, with_abs_passes, raised_passes, at_least_passes, at_most_passes};
-ghost use Rattle.cf_formula.specs.WritingAnswers.{compared_passes, difference_passes, flat_formula, flat_passes, formula_behind, passes_behind, joined_formula, FlatAnswer, DifferenceAnswer, FlatFormulaAnswer, ScaledAnswer};
+ghost use Rattle.cf_formula.specs.WritingAnswers.{compared_passes, difference_passes, flat_formula, flat_passes, formula_behind, passes_behind, joined_formula, FlatAnswer, DifferenceAnswer, FlatFormulaAnswer, ScaledAnswer, NumberAnswer};
 ghost use Rattle.cf_linear.specs.Cases.{atom_compare};
 
 use crate::atoms::ge;
@@ -239,8 +239,18 @@ fn scaled(
         return Ok(None);
     }
     let row = plain_row(alloc, layout, term)?;
+    let m = constant_times(&row, k)?;
+    Ok(Some(m))
+}
+
+// k times the constant of the row.
+fn constant_times(row: &Row, k: &i128) -> Result<i128, RowFault>
+    requires { IsWithin k.now }
+    ensures gives { NumberAnswer (k.now *ℤ entry row.now 0) result }
+    ensures fits { IfOk result IsWithin }
+{
     match mul(*k, row.entry(0)) {
-        Some(m) => Ok(Some(m)),
+        Some(m) => Ok(m),
         None => Err(RowFault::Past),
     }
 }
@@ -485,6 +495,7 @@ fn turned_parts(alloc: Global, parts: &[Part]) -> Result<Vec<Part>, NoMemory>
     in_order(alloc, &turned)
 }
 
+#[tactic(auto, using(crate::proofs::WritingCode::mapped_step))]
 fn turned_all(alloc: Global, parts: &[Part]) -> Result<Vec<Part>, NoMemory>
     ensures { IfOk result (λ v. v.items ≡ map (λ (k, s). (neg_ℤ k, s)) parts.now) }
 {
@@ -498,6 +509,7 @@ fn turned_all(alloc: Global, parts: &[Part]) -> Result<Vec<Part>, NoMemory>
 }
 
 // Adds the parts of which the absolute values are not added.
+#[tactic(auto, using(crate::proofs::WritingCode::kept_step))]
 fn push_others(alloc: Global, parts: &[Part], out: &mut Vec<Part>) -> Result<(), NoMemory>
     ensures { OnOk result (out.new.items ≡ out.old.items ++ filter (λ (k, s). not (int_lt (pos 0) k)) parts.now) }
 {
@@ -510,6 +522,7 @@ fn push_others(alloc: Global, parts: &[Part], out: &mut Vec<Part>) -> Result<(),
 }
 
 // Adds the parts of which they are added.
+#[tactic(auto, using(crate::proofs::WritingCode::kept_step))]
 fn push_added(alloc: Global, parts: &[Part], out: &mut Vec<Part>) -> Result<(), NoMemory>
     ensures { OnOk result (out.new.items ≡ out.old.items ++ filter (λ (k, s). int_lt (pos 0) k) parts.now) }
 {

@@ -1,8 +1,8 @@
 //! Atoms of a relation by their ways.
-ghost use Rattle.std.specs.Prelude.{◌≡◌, ◌+◌, ◌<◌, ◌≤◌, ◌^◌, ◌++◌, [], map, IfOk, OnOk};
+ghost use Rattle.std.specs.Prelude.{◌≡◌, ◌+◌, ◌<◌, ◌≤◌, ◌^◌, ◌++◌, ◌∷◌, [], map, IfOk, OnOk};
 ghost use Rattle.cf_tree.specs.RelView.{rel_tree};
 ghost use Rattle.cf_linear.specs.declared.refusal.TheConstants.{MOST_SETS};
-ghost use Rattle.cf_linear.specs.Cases.{negation_normal, case_count, atom_cases};
+ghost use Rattle.cf_linear.specs.Cases.{negation_normal, atom_cases};
 ghost use Rattle.cf_linear.specs.Layout.{set_count, first_free};
 ghost use Rattle.cf_linear.specs.Views.{plain_layout};
 ghost use Rattle.cf_cases.specs.Holding.{IsPlacedRel};
@@ -12,7 +12,7 @@ ghost use Rattle.cf_formula.specs.Atoms.{ge, eq};
 ghost use Rattle.cf_formula.specs.FormulaView.{formula_tree, formula_trees};
 ghost use Rattle.cf_formula.specs.Members.{conj};
 ghost use Rattle.cf_formula.specs.Writing.{ways_written};
-ghost use Rattle.cf_formula.specs.WritingAnswers.{IsAtom, atom_in, empty_rows, ways_pass, with_rows_way, ways_of, all_ways, WrittenAnswer, WaysAnswer, RowsAnswer};
+ghost use Rattle.cf_formula.specs.WritingAnswers.{IsAtom, atom_in, way_count, empty_rows, ways_pass, with_rows_way, ways_of, all_ways, WrittenAnswer, WaysAnswer, RowsAnswer};
 
 use crate::atoms::{eq, ge};
 use crate::flat::{has_room, quotient_count, total};
@@ -175,7 +175,7 @@ fn add_rows(
 // How many ways there are. Each has a formula of its own, so that no memory holds 2^64 of them.
 fn ways_len(rel: &Rel, holds: bool) -> Result<u128, NoMemory>
     requires atom { IsAtom (rel_tree rel.now) }
-    ensures count { IfOk result (λ n. n ≡ case_count (negation_normal holds (rel_tree rel.now))) }
+    ensures count { IfOk result (λ n. n ≡ way_count holds (rel_tree rel.now)) }
     ensures small { IfOk result (λ n. n ≤ 2 ^ 64) }
 {
     match rel {
@@ -243,6 +243,7 @@ fn rows_formula(
 }
 
 // Adds the formulas that the rows are 0.
+#[tactic(auto, using(crate::proofs::WritingCode::mapped_step))]
 pub(crate) fn push_equal(
     alloc: Global,
     rows: &[Row],
@@ -260,6 +261,7 @@ pub(crate) fn push_equal(
 }
 
 // Adds the formulas that the rows are at least 0.
+#[tactic(auto, using(crate::proofs::WritingCode::mapped_step))]
 pub(crate) fn push_at_least(
     alloc: Global,
     rows: &[Row],
