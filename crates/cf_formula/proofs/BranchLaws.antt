@@ -77,7 +77,8 @@ module _ (known : List ℕ) (constant : In 0 known) (Given : Values → Type 0) 
     items_known = EachItemOver-append (λ c. In c a.known) (λ c. In c b.known) h.grows a.items b.items g.items_known h.items_known;
   }
 
-  then_back : (a b : Branch) → Grows known a → ComesBack known Given f a → ComesBack a.known (GivenIn Given a) a.formula b → ComesBack known Given f (then_branch a b)
+  then_back : (a b : Branch) → Grows known a → ComesBack known Given f a → ComesBack a.known (GivenIn Given a) a.formula b →
+      ComesBack known Given f (then_branch a b)
   then_back a b g back more v one given wi met h =
       let ws = Within-split v a.bounds b.bounds wi in
       let ms = AllMet-split v a.items b.items met in
@@ -116,7 +117,8 @@ module _ (known : List ℕ) (constant : In 0 known) (Given : Values → Type 0) 
   all_back (b ∷ bs) (cs ∷ css) g h l =
       let again = all_back bs css g.1 h.1 l.1 in (
         EachBranch-append (ComesBack known Given f) (map (then_branch b) cs) (joined bs css)
-            (EachBranch-both (ComesBack b.known (GivenIn Given b) b.formula) (Grows b.known) (ComesBack known Given f) (then_branch b) (λ c k j. then_back b c g.0 h.0 k) cs l.0.back
+            (EachBranch-both (ComesBack b.known (GivenIn Given b) b.formula) (Grows b.known) (ComesBack known Given f) (then_branch b)
+            (λ c k j. then_back b c g.0 h.0 k) cs l.0.back
             l.0.formed) again.0,
         EachBranch-append (Grows known) (map (then_branch b) cs) (joined bs css)
             (EachBranch-both (Grows b.known) (Grows b.known) (Grows known) (then_branch b) (λ c k j. then_grows b c g.0 k) cs l.0.formed l.0.formed) again.1,

@@ -148,7 +148,8 @@ written_are l rel p =
       low = conj-through (Over small) kind (w.formula ∷ region_formulas l) (
         i.low,
         region-through (Over small) kind l
-            (all_over w.next input_rows (rows-raise (first_free l) w.next input_rows up (inputs-below l 1 (2 ^ length l.inputs - 1) (omega arith) (omega arith))))
+            (all_over w.next input_rows (rows-raise (first_free l) w.next input_rows up
+            (inputs-below l 1 (2 ^ length l.inputs - 1) (omega arith) (omega arith))))
             (all_over w.next count_rows (rows-raise (first_free l) w.next count_rows up (counts-below l 1 (2 ^ set_count l - 1) (omega arith) (omega arith)))),
       );
       forth = λ v one at.

@@ -195,7 +195,8 @@ module _ (v : Values) (one : v 0 ≡ pos 1) where
       let j = most_by (pos 1) f in (
         (λ h. ⊎_elim (λ k. let a = j.0 k in λ e. omega (arith, ints)) (λ k. let a = i.0 k in λ e. omega (arith, ints)) (c.0 h)),
         (λ h.
-            c.1 (⊎_elim (λ (k : pos 0 ≤ℤ flat_value v f). inr (i.1 (apart_above (flat_value v f) k h))) (λ (k : flat_value v f <ℤ pos 0). inl (j.1 (omega (arith, ints))))
+            c.1 (⊎_elim (λ (k : pos 0 ≤ℤ flat_value v f). inr (i.1 (apart_above (flat_value v f) k h)))
+            (λ (k : flat_value v f <ℤ pos 0). inl (j.1 (omega (arith, ints))))
             (le_or_lt_z (pos 0) (flat_value v f)))),
       )
     where

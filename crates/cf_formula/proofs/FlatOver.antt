@@ -28,7 +28,8 @@ module _ (P : Row → Type 0) (kind : IsKind P) (constants : (d : ℤ) → P (co
 
   each-filter : (p : ℤ × Row → Bool) (xs : List (ℤ × Row)) → EachOver xs → EachOver (filter p xs)
   each-filter p [] a = tt
-  each-filter p ((k, s) ∷ xs) a = cond_both (p (k, s)) ((k, s) ∷ filter p xs) (filter p xs) EachOver (λ e. (a.0, each-filter p xs a.1)) (λ e. each-filter p xs a.1)
+  each-filter p ((k, s) ∷ xs) a = cond_both (p (k, s)) ((k, s) ∷ filter p xs) (filter p xs) EachOver (λ e. (a.0, each-filter p xs a.1))
+      (λ e. each-filter p xs a.1)
 
   each-turned : (xs : List (ℤ × Row)) → EachOver xs → EachOver (map (λ (k, s). (neg_ℤ k, s)) xs)
   each-turned [] a = tt

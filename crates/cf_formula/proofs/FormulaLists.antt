@@ -130,7 +130,8 @@ pub all_step : (before left : List DeclaredFormula) (f : DeclaredFormula) (g all
     all_of (formula_trees before ++ (g ∷ [])) ≡ target → all_of (formula_trees left ++ (all ∷ [])) ≡ target
 all_step = join_step all_of both all_last
 
-pub any_step : (before left : List DeclaredFormula) (f : DeclaredFormula) (g any target : Formula) → before ≡ left ++ (f ∷ []) → any ≡ either (formula_tree f) g →
+pub any_step : (before left : List DeclaredFormula) (f : DeclaredFormula) (g any target : Formula) → before ≡ left ++ (f ∷ []) →
+    any ≡ either (formula_tree f) g →
     any_of (formula_trees before ++ (g ∷ [])) ≡ target → any_of (formula_trees left ++ (any ∷ [])) ≡ target
 any_step = join_step any_of either any_last
 

@@ -36,7 +36,8 @@ module _ (members : Formula → List Formula) where
       sym (append-nil (formula_trees out)) ∙ ap (λ s. formula_trees out ++ flat_map members (formula_trees (reverse s))) (sym e) ∙ inv
 
 -- ---- of each member a mark
-pub mark_step : (p : Formula → Bool) (fs : List DeclaredFormula) (marks next : List Bool) (i : ℕ) (f : DeclaredFormula) (b : Bool) → i < length fs → f ≡ get_or fs i f →
+pub mark_step : (p : Formula → Bool) (fs : List DeclaredFormula) (marks next : List Bool) (i : ℕ) (f : DeclaredFormula) (b : Bool) → i < length fs →
+    f ≡ get_or fs i f →
     next ≡ marks ++ (b ∷ []) → b ≡ p (formula_tree f) → marks ≡ map p (formula_trees (take i fs)) → next ≡ map p (formula_trees (take (i + 1) fs))
 mark_step p fs marks next i f b h e n g inv =
     n ∙ ap (λ s. s ++ (b ∷ [])) inv ∙ ap (λ c. map p (formula_trees (take i fs)) ++ (c ∷ [])) g ∙
@@ -47,9 +48,12 @@ mark_step p fs marks next i f b h e n g inv =
     one_more (u ∷ ts) t = ap (λ s. p u ∷ s) (one_more ts t)
 
 -- ---- without those that are marked
-pub kept_are : (p : Formula → Bool) (ts ns : List Formula) (marks given : List Bool) → given ≡ map p ts → marks ≡ given → ns ≡ unmarked marks ts →
-    ns ≡ filter (λ f. not (p f)) ts
-kept_are p ts ns marks given m d n = n ∙ ap (λ bs. unmarked bs ts) (d ∙ m) ∙ unmarked_are p ts
+pub kept_are : (p : List Formula → Formula → Bool) (fs same : List DeclaredFormula) (ns : List Formula) (marks given : List Bool) → same ≡ fs →
+    given ≡ map (p (formula_trees same)) (formula_trees same) → marks ≡ given → ns ≡ unmarked marks (formula_trees fs) →
+    ns ≡ filter (λ f. not (p (formula_trees fs) f)) (formula_trees fs)
+kept_are p fs same ns marks given e m d n =
+    n ∙ ap (λ bs. unmarked bs (formula_trees fs)) (d ∙ m ∙ ap (λ gs. map (p (formula_trees gs)) (formula_trees gs)) e) ∙
+    unmarked_are (p (formula_trees fs)) (formula_trees fs)
 
 pub needed_or : (ts : List Formula) → is_among ts never ≡ false → all_of (filter (λ h. not (is_needless_or ts h)) ts) ≡ and_of ts
 needed_or ts e = rw e refl

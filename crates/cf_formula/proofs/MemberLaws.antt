@@ -121,7 +121,8 @@ filter-each P p (f ∷ fs) h =
     cond_both (p f) (f ∷ filter p fs) (filter p fs) (EachFormula P) (λ e. (h.0, filter-each P p fs h.1)) (λ e. filter-each P p fs h.1)
 
 -- a formula that passes is among those that pass
-filter-among : (P : Formula → Type 0) (p : Formula → Bool) (fs : List Formula) (f : Formula) → EachFormula P (filter p fs) → is_among fs f ≡ true → p f ≡ true → P f
+filter-among : (P : Formula → Type 0) (p : Formula → Bool) (fs : List Formula) (f : Formula) → EachFormula P (filter p fs) → is_among fs f ≡ true → p f ≡ true →
+    P f
 filter-among P p [] f h e q = cc e
 filter-among P p (g ∷ fs) f h e q =
     on_bool (same_formula f g)
@@ -142,7 +143,8 @@ filter-back P p (f ∷ fs) h =
     cond_both (p f) (f ∷ filter p fs) (filter p fs) (λ ys. SomeFormula P ys → SomeFormula P (f ∷ fs))
     (λ e s. ⊎_elim (λ i. inl i) (λ i. inr (filter-back P p fs i)) s) (λ e s. inr (filter-back P p fs s)) h
 
-filter-keeps : (P : Formula → Type 0) (p : Formula → Bool) (fs : List Formula) (f : Formula) → P f → is_among fs f ≡ true → p f ≡ true → SomeFormula P (filter p fs)
+filter-keeps : (P : Formula → Type 0) (p : Formula → Bool) (fs : List Formula) (f : Formula) → P f → is_among fs f ≡ true → p f ≡ true →
+    SomeFormula P (filter p fs)
 filter-keeps P p [] f h e q = cc e
 filter-keeps P p (g ∷ fs) f h e q =
     on_bool (same_formula f g)

@@ -44,13 +44,15 @@ among_filter p (f ∷ fs) d h =
     (λ t. rw t (ap (λ b. same_formula d f || b) (among_filter p fs d h)))
     (λ t. rw t (on_bool (same_formula d f) (λ s. not_both (p f) _ (ap p (sym (same_formula-is d f s)) ∙ h) t) (λ s. rw s (among_filter p fs d h))))
 
-among_distinct_behind : (seen fs : List Formula) (d : Formula) → (is_among seen d || is_among (distinct_formulas seen fs) d) ≡ (is_among seen d || is_among fs d)
+among_distinct_behind : (seen fs : List Formula) (d : Formula) →
+    (is_among seen d || is_among (distinct_formulas seen fs) d) ≡ (is_among seen d || is_among fs d)
 among_distinct_behind seen [] d = refl
 among_distinct_behind seen (f ∷ fs) d =
     on_bool (is_among seen f)
     (λ t. rw t (among_distinct_behind seen fs d ∙
     once (is_among seen d) (same_formula d f) (is_among fs d) (λ s. ap (is_among seen) (same_formula-is d f s) ∙ t)))
-    (λ t. rw t (moved (is_among seen d) (same_formula d f) (is_among (distinct_formulas (f ∷ seen) fs) d) (is_among fs d) (among_distinct_behind (f ∷ seen) fs d)))
+    (λ t. rw t (moved (is_among seen d) (same_formula d f) (is_among (distinct_formulas (f ∷ seen) fs) d) (is_among fs d)
+    (among_distinct_behind (f ∷ seen) fs d)))
   where
     once : (a b c : Bool) → (b ≡ true → a ≡ true) → (a || c) ≡ (a || (b || c))
     once true b c h = refl
@@ -221,7 +223,8 @@ disjuncts_plain f = (refl, tt)
 or_by_plain : IsByPlain no_either is_needless_or
 or_by_plain = record { same = same; more = more; needed = needed }
   where
-    same : (fs gs : List Formula) → ((d : Formula) → no_either d ≡ true → is_among fs d ≡ is_among gs d) → (f : Formula) → is_needless_or fs f ≡ is_needless_or gs f
+    same : (fs gs : List Formula) → ((d : Formula) → no_either d ≡ true → is_among fs d ≡ is_among gs d) → (f : Formula) →
+        is_needless_or fs f ≡ is_needless_or gs f
     same fs gs h (either f g) = any_same no_either (is_among fs) (is_among gs) h (disjuncts (either f g)) (disjuncts_plain (either f g))
     same fs gs h f = refl
 
@@ -323,7 +326,8 @@ conjuncts_plain f = (refl, tt)
 and_by_plain : IsByPlain no_both is_needless_and
 and_by_plain = record { same = same; more = more; needed = needed }
   where
-    same : (fs gs : List Formula) → ((d : Formula) → no_both d ≡ true → is_among fs d ≡ is_among gs d) → (f : Formula) → is_needless_and fs f ≡ is_needless_and gs f
+    same : (fs gs : List Formula) → ((d : Formula) → no_both d ≡ true → is_among fs d ≡ is_among gs d) → (f : Formula) →
+        is_needless_and fs f ≡ is_needless_and gs f
     same fs gs h (both f g) = any_same no_both (is_among fs) (is_among gs) h (conjuncts (both f g)) (conjuncts_plain (both f g))
     same fs gs h f = refl
 

@@ -46,7 +46,8 @@ module _ (P : Row → Type 0) (kind : IsKind P) where
 
   pub rounded-kind : (g : ℕ) (r : Row) → P r → P (rounded g r)
   rounded-kind g r o =
-      kind.combined (pos 1) (divided g (key r)) (int_div_euclid (entry r 0) (pos g)) (one_at 0) (kind.quotients g (key r) (kind.without_column 0 r o)) kind.constant
+      kind.combined (pos 1) (divided g (key r)) (int_div_euclid (entry r 0) (pos g)) (one_at 0) (kind.quotients g (key r) (kind.without_column 0 r o))
+      kind.constant
 
   pub tight-kind : (r : Row) → P r → P (tight_row r)
   tight-kind r o = cond_both (nat_le (common (key r)) 1) r (rounded (common (key r)) r) P (λ e. o) (λ e. rounded-kind (common (key r)) r o)

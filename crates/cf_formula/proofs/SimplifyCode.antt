@@ -52,7 +52,8 @@ both_at : (fs gs : List DeclaredFormula) (i : ℕ) (f g : DeclaredFormula) → i
     (same_formula (formula_tree f) (formula_tree g) && same_formulas (formula_trees (drop (i + 1) fs)) (formula_trees (drop (i + 1) gs)))
 both_at fs gs i f g h k e n =
     rw (add-one, drop-cons fs i f, drop-cons gs i g)
-    (ap (λ a. same_formula (formula_tree a) (formula_tree (get_or gs i g)) && same_formulas (formula_trees (drop (suc i) fs)) (formula_trees (drop (suc i) gs))) (sym e) ∙
+    (ap (λ a. same_formula (formula_tree a) (formula_tree (get_or gs i g)) && same_formulas (formula_trees (drop (suc i) fs)) (formula_trees (drop (suc i) gs)))
+    (sym e) ∙
     ap (λ b. same_formula (formula_tree f) (formula_tree b) && same_formulas (formula_trees (drop (suc i) fs)) (formula_trees (drop (suc i) gs))) (sym n))
 
 pub same_next : (fs gs : List DeclaredFormula) (i : ℕ) (f g : DeclaredFormula) → i < length fs → i < length gs → f ≡ get_or fs i f → g ≡ get_or gs i g →
@@ -62,7 +63,7 @@ same_next = both_at
 
 pub same_end : (fs gs : List DeclaredFormula) (i : ℕ) → length fs ≤ i → length fs ≡ length gs →
     true ≡ same_formulas (formula_trees (drop i fs)) (formula_trees (drop i gs))
-same_end fs gs i h e = rw (drop_of_length-le fs h, drop_of_length-le gs (omega arith)) refl
+same_end fs gs i h e = let k : length gs ≤ i = omega arith in rw (drop_of_length-le fs h, drop_of_length-le gs k) refl
 
 pub other_length : (fs gs : List DeclaredFormula) → length fs ≢ length gs → false ≡ same_formulas (formula_trees fs) (formula_trees gs)
 other_length [] [] n = absurd (n refl)

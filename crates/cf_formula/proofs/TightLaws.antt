@@ -37,7 +37,8 @@ sign_twice : (lower : Bool) (z : ℤ) → sign lower *ℤ (sign lower *ℤ z) �
 sign_twice true z = omega (arith, ints)
 sign_twice false z = omega (arith, ints)
 
-module _ (known : List ℕ) (Given : Values → Type 0) (lower : Bool) (x n : ℕ) (f : Formula) (t : Throughout (λ c. c < n) f) (constant : In 0 known) (apart_x : (c : ℕ) → In c known → c ≢ x)
+module _ (known : List ℕ) (Given : Values → Type 0) (lower : Bool) (x n : ℕ) (f : Formula) (t : Throughout (λ c. c < n) f) (constant : In 0 known)
+    (apart_x : (c : ℕ) → In c known → c ≢ x)
     (below_n : (c : ℕ) → In c known → c < n) where
   -- the value of x, counted from the side
   abbrev here : Values → ℤ
@@ -64,12 +65,14 @@ module _ (known : List ℕ) (Given : Values → Type 0) (lower : Bool) (x n : �
       (pos 0 ≤ℤ value (at v lower x (bound v lower x r)) r) × (value (at v lower x (bound v lower x r)) r <ℤ pos (unsigned_abs (entry r x)))
   at_bound v r p =
       rw (value-at v lower x (bound v lower x r) r, size_is v r p)
-      (near (coef lower x r) (int_div_euclid (rest v lower x r) (coef lower x r)) (rest v lower x r) (int_div_euclid-bounds (rest v lower x r) (coef lower x r) p))
+      (near (coef lower x r) (int_div_euclid (rest v lower x r) (coef lower x r)) (rest v lower x r)
+      (int_div_euclid-bounds (rest v lower x r) (coef lower x r) p))
     where
       near : (p d l : ℤ) → ((p *ℤ d) ≤ℤ l) × (l <ℤ (p *ℤ d +ℤ p)) → (pos 0 ≤ℤ (p *ℤ neg_ℤ d +ℤ l)) × ((p *ℤ neg_ℤ d +ℤ l) <ℤ p)
       near p d l h = let i = h.0 in let j = h.1 in (simp ring (omega (arith, ints)), simp ring (omega (arith, ints)))
 
-  point_forth : (v : Values) (r : Row) → Positive v lower x r → Below n r → Holds (at v lower x (bound v lower x r)) f → GoesOn known v (point_branch known x n f r)
+  point_forth : (v : Values) (r : Row) → Positive v lower x r → Below n r → Holds (at v lower x (bound v lower x r)) f →
+      GoesOn known v (point_branch known x n f r)
   point_forth v r p o h =
       let y = bound v lower x r in
       let u = at v lower x y in
@@ -94,7 +97,8 @@ module _ (known : List ℕ) (Given : Values → Type 0) (lower : Bool) (x n : �
       ))
 
   point_back : (r : Row) → ComesBack known Given f (point_branch known x n f r)
-  point_back r = cond_both (unsigned_abs (entry r x) == 1) _ _ (ComesBack known Given f) (λ i v o given b m h. (h.1, λ c d. refl)) (λ i v o given b m h. (h.1, λ c d. refl))
+  point_back r = cond_both (unsigned_abs (entry r x) == 1) _ _ (ComesBack known Given f) (λ i v o given b m h. (h.1, λ c d. refl))
+      (λ i v o given b m h. (h.1, λ c d. refl))
 
   last_back : ComesBack known Given f (last_branch known lower x f)
   last_back v o given b m h =
@@ -102,7 +106,8 @@ module _ (known : List ℕ) (Given : Values → Type 0) (lower : Bool) (x n : �
       let y = sign lower *ℤ how_value v (nearest lower x rows) in
       let near = nearest_below v x lower rows (others_negative v lower x f) in
       let beyond_here = Holds-same n v (at v lower x (here v)) (at_here v) (beyond lower x f) (beyond_below f t) h in (
-        subst (λ z. Holds (update v x z) f) (sign_twice lower (how_value v (nearest lower x rows))) (beyond_holds v lower x y (here v) (still_one v (here v) o) f near beyond_here),
+        subst (λ z. Holds (update v x z) f) (sign_twice lower (how_value v (nearest lower x rows)))
+            (beyond_holds v lower x y (here v) (still_one v (here v) o) f near beyond_here),
         λ c i. sym (update-other v x c (how_value v (nearest lower x rows)) (apart_x c i)),
       )
     where

@@ -95,7 +95,8 @@ module _ (v : Values) (lower : Bool) (x : ℕ) where
   pub rises : (y z : ℤ) (r : Row) → y ≤ℤ z → Negative r → value (at z) r ≤ℤ value (at y) r
   rises y z r h p =
       rw (value-at y r, value-at z r)
-      (let i = simp ring at (mul-le_z (neg_ℤ (coef lower x r)) y z (omega (arith, ints)) h) in omega (arith, ints, mul_comm_z (coef lower x r) y, mul_comm_z (coef lower x r) z))
+      (let i = simp ring at (mul-le_z (neg_ℤ (coef lower x r)) y z (omega (arith, ints)) h) in
+      omega (arith, ints, mul_comm_z (coef lower x r) y, mul_comm_z (coef lower x r) z))
 
   pub stays : (y z : ℤ) (r : Row) → coef lower x r ≡ pos 0 → value (at y) r ≡ value (at z) r
   stays y z r e = rw (value-at y r, value-at z r, e) (omega (arith, ints))
@@ -129,7 +130,8 @@ module _ (v : Values) (lower : Bool) (x : ℕ) where
       ⊎_elim (λ i. inl (holds_below y z le f s.0 b.0 i)) (λ i. inr (holds_below y z le g s.1 b.1 i)) h
 
   -- ---- beyond all points
-  pub holds_beyond : (z : ℤ) → at z 0 ≡ pos 1 → (f : Formula) → EachRow (λ q. z <ℤ bound q) (points lower x f) → EachRow (Apart z) (zeros x f) → Holds (at z) f →
+  pub holds_beyond : (z : ℤ) → at z 0 ≡ pos 1 → (f : Formula) → EachRow (λ q. z <ℤ bound q) (points lower x f) → EachRow (Apart z) (zeros x f) →
+      Holds (at z) f →
       Holds (at z) (beyond lower x f)
   holds_beyond z one always q a h = tt
   holds_beyond z one never q a h = h
@@ -149,7 +151,8 @@ module _ (v : Values) (lower : Bool) (x : ℕ) where
       (disj_two (at z) one (beyond lower x f) (beyond lower x g)).1
       (⊎_elim (λ i. inl (holds_beyond z one f s.0 b.0 i)) (λ i. inr (holds_beyond z one g s.1 b.1 i)) h)
 
-  pub beyond_holds : (y z : ℤ) → at z 0 ≡ pos 1 → (f : Formula) → EachRow (λ u. y ≤ℤ cap u) (others lower x f) → Holds (at z) (beyond lower x f) → Holds (at y) f
+  pub beyond_holds : (y z : ℤ) → at z 0 ≡ pos 1 → (f : Formula) → EachRow (λ u. y ≤ℤ cap u) (others lower x f) → Holds (at z) (beyond lower x f) →
+      Holds (at y) f
   beyond_holds y z one always q h = tt
   beyond_holds y z one never q h = h
   beyond_holds y z one (at_least r) q h =

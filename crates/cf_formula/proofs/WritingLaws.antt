@@ -208,7 +208,8 @@ pub below_over : (n : ℕ) (r : Row) → AreBelow n r → Over (λ c. c < n) r
 below_over n [] b = tt
 below_over n ((c, k) ∷ r) b = (b.0, below_over n r b.1)
 
-rows-through : (n : ℕ) → 0 < n → (a : AtomRows) → EachRow (AreBelow n) a.equations → EachRow (AreBelow n) a.inequalities → Throughout (λ c. c < n) (rows_formula a)
+rows-through : (n : ℕ) → 0 < n → (a : AtomRows) → EachRow (AreBelow n) a.equations → EachRow (AreBelow n) a.inequalities →
+    Throughout (λ c. c < n) (rows_formula a)
 rows-through n z a e i =
     let small = λ (c : ℕ). c < n in
     let kind = over_kind small z in
@@ -255,7 +256,8 @@ module _ (l : Layout) where
   ways_keep P (s ∷ cases) w h =
       ways_keep P cases (with_way l w s) ((SomeFormula-append P w.formulas (rows_formula (write_atom l s w.next) ∷ [])).1 (inl h))
 
-  ways_forth : (v : Values) → v 0 ≡ pos 1 → (cases : List Signed) (w : Ways) → EachOf (SignedFits l) cases → first_free l ≤ w.next → SomeOf (SignedAt l v) cases →
+  ways_forth : (v : Values) → v 0 ≡ pos 1 → (cases : List Signed) (w : Ways) → EachOf (SignedFits l) cases → first_free l ≤ w.next →
+      SomeOf (SignedAt l v) cases →
       (u : Values) × Same w.next v u × SomeFormula (Holds u) (fold (with_way l) w cases).formulas
   ways_forth v one [] w f h s = absurd s
   ways_forth v one (c ∷ cases) w f h s =

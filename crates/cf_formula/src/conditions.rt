@@ -73,7 +73,7 @@ impl Conditions {
     /// # Errors
     /// `Past` exactly where a product or a sum that makes an entry passes the limit, and `NoMemory` where
     /// memory ran out.
-    #[tactic(auto, using(crate::proofs::ConditionsCode::all_put, crate::proofs::RewritingCode::first_fault, crate::proofs::RewritingCode::second_fault))]
+    #[tactic(auto, using(crate::proofs::RewritingCode::first_fault, crate::proofs::RewritingCode::second_fault))]
     pub fn put(&self, alloc: Global, by: &Substitution) -> Result<Conditions, RowFault>
         ensures { ConditionsAnswer (some_row (rows_pass (pairs_of by.now.replacements.items)) (conditions_of self.now))
             (changed (subst_rows (pairs_of by.now.replacements.items)) (conditions_of self.now)) result }

@@ -1,6 +1,7 @@
 //! The `and` and the `or` of formulas, in normal form.
 ghost use Rattle.std.specs.Prelude.{◌≡◌, ◌++◌, ◌∷◌, [], map, filter, not, IfOk, OnOk};
 ghost use Rattle.std.specs.List.{list_any, flat_map};
+ghost use Rattle.cf_formula.specs.Formulas.{never};
 ghost use Rattle.cf_formula.specs.FormulaView.{formula_tree, formula_trees};
 ghost use Rattle.cf_formula.specs.Members.{is_among, conjuncts, is_needless_or, and_of, conj};
 ghost use Rattle.cf_formula.specs.Members.{disjuncts, is_needless_and, is_covered, or_of, disj};
@@ -39,10 +40,8 @@ pub fn disj(alloc: Global, parts: Vec<Formula>) -> Result<Formula, NoMemory>
 fn and_of(alloc: Global, members: Vec<Formula>) -> Result<Formula, NoMemory>
     ensures { IfOk result (λ f. formula_tree f ≡ and_of (formula_trees members.items)) }
 {
-    let never = Formula::Never;
-    let has_never = is_among(&members, &never);
-    if has_never {
-        return Ok(never);
+    if has_never(&members) {
+        return Ok(Formula::Never);
     }
     let needed = without_needless_ors(alloc, members)?;
     let all = all_of(alloc, needed)?;
@@ -76,6 +75,14 @@ fn without_needless_ands(alloc: Global, members: Vec<Formula>) -> Result<Vec<For
     let needless = needless_ands(alloc, &members)?;
     let needed = unmarked(alloc, members, &needless)?;
     Ok(needed)
+}
+
+// Whether a member is never true.
+fn has_never(members: &[Formula]) -> bool
+    ensures { result ≡ is_among (formula_trees members.now) never }
+{
+    let never = Formula::Never;
+    is_among(members, &never)
 }
 
 // Whether a member is always true, or two of them are at least 0 everywhere together.

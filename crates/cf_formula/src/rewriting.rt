@@ -45,9 +45,10 @@ impl Formula {
     /// # Errors
     /// `Past` exactly where a number on the way to one of them passes the limit, and `NoMemory` where memory
     /// ran out.
-    #[tactic(auto, using(crate::proofs::RewritingCode::both_made, crate::proofs::RewritingCode::either_made, crate::proofs::RewritingCode::first_fault, crate::proofs::RewritingCode::second_fault))]
+    #[tactic(auto, using(crate::proofs::RewritingCode::both_made, crate::proofs::RewritingCode::first_fault, crate::proofs::RewritingCode::second_fault))]
     pub fn rewritten<R: Rewriting>(&self, alloc: Global, by: &R) -> Result<Formula, RowFault>
-        ensures { FormulaAnswer (some_atom (R.passes by.now) (formula_tree self.now)) (rewritten (R.low by.now) (R.zero by.now) (formula_tree self.now)) result }
+        ensures { FormulaAnswer (some_atom (R.passes by.now) (formula_tree self.now))
+            (rewritten (R.low by.now) (R.zero by.now) (formula_tree self.now)) result }
     {
         match self {
             Formula::Always => Ok(Formula::Always),

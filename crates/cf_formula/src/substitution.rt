@@ -38,21 +38,22 @@ impl Substitution {
     }
 }
 
-#[tactic(auto, using(crate::proofs::SubstitutionCode::put_made, crate::proofs::SubstitutionCode::put_fault))]
+// The row with the rows in it, from the last one on.
 fn put_all(alloc: Global, replacements: &[Replacement], row: &Row) -> Result<Row, RowFault>
     ensures { SubstAnswer (rows_pass (pairs_of replacements.now) row.now) (subst_rows (pairs_of replacements.now) row.now) result }
 {
-    match replacements.split_first() {
-        Some((first, others)) => {
-            let inner = put_all(alloc, others, row)?;
-            put_one(alloc, first, &inner)
-        }
-        None => Ok(row.try_copy(alloc)?),
+    let mut put = row.try_copy(alloc)?;
+    let mut i = replacements.len();
+    while i > 0 {
+        i -= 1;
+        put = put_one(alloc, &replacements[i], &put)?;
     }
+    Ok(put)
 }
 
 fn put_one(alloc: Global, replacement: &Replacement, row: &Row) -> Result<Row, RowFault>
-    ensures { SubstAnswer (subst_passes replacement.now.column replacement.now.row row.now) (subst_row replacement.now.column replacement.now.row row.now) result }
+    ensures { SubstAnswer (subst_passes replacement.now.column replacement.now.row row.now)
+        (subst_row replacement.now.column replacement.now.row row.now) result }
 {
     match row.subst(alloc, replacement.column, &replacement.row) {
         Ok(put) => Ok(put),

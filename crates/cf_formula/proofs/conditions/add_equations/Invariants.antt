@@ -11,7 +11,8 @@ use Rattle.cf_formula.proofs.conditions.add_equations.Given as goal
 
 abbrev pub invariant-loop-row : goal.invariant-loop-row
 invariant-loop-row l = record {
-  added : add_all (map (λ r. eq (subst_rows (pairs_of l.by.replacements.items) r)) l.rest) (conditions_of l.to) ≡ add_all (map (λ r. eq (subst_rows (pairs_of l.by.replacements.items) r)) l.rows) (conditions_of l.initial.to);
+  added : add_all (map (λ r. eq (subst_rows (pairs_of l.by.replacements.items) r)) l.rest) (conditions_of l.to) ≡ add_all
+      (map (λ r. eq (subst_rows (pairs_of l.by.replacements.items) r)) l.rows) (conditions_of l.initial.to);
   fits : list_any (rows_pass (pairs_of l.by.replacements.items)) l.rest ≡ list_any (rows_pass (pairs_of l.by.replacements.items)) l.rows;
 }
 

@@ -11,8 +11,10 @@ use Rattle.cf_formula.proofs.conditions.add_pending.Given as goal
 
 abbrev pub invariant-loop-old : goal.invariant-loop-old
 invariant-loop-old l = record {
-  added : add_all (map (with_rows (subst_rows (pairs_of l.by.replacements.items))) (formula_trees l.rest)) (conditions_of l.to) ≡ add_all (map (with_rows (subst_rows (pairs_of l.by.replacements.items))) (formula_trees l.formulas)) (conditions_of l.initial.to);
-  fits : list_any (some_atom (rows_pass (pairs_of l.by.replacements.items))) (formula_trees l.rest) ≡ list_any (some_atom (rows_pass (pairs_of l.by.replacements.items))) (formula_trees l.formulas);
+  added : add_all (map (with_rows (subst_rows (pairs_of l.by.replacements.items))) (formula_trees l.rest)) (conditions_of l.to) ≡ add_all
+      (map (with_rows (subst_rows (pairs_of l.by.replacements.items))) (formula_trees l.formulas)) (conditions_of l.initial.to);
+  fits : list_any (some_atom (rows_pass (pairs_of l.by.replacements.items))) (formula_trees l.rest) ≡ list_any
+      (some_atom (rows_pass (pairs_of l.by.replacements.items))) (formula_trees l.formulas);
 }
 
 abbrev pub decreases-loop-old : goal.decreases-loop-old

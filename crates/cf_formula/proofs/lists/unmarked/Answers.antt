@@ -11,7 +11,8 @@ loop-mark-init c =
 pub loop-mark-preserved : goal.loop-mark-preserved
 loop-mark-preserved c =
     unmarked_step c.args.marks.now c.loop-mark.mark-index _ c.loop-mark.left.items c.move_if.new.left.items c.loop-mark.out.items c.move_if.new.out.items
-    (unmarked c.args.marks.now (formula_trees c.args.formulas.items)) (omega arith) c.in_ok-move_if.ensures.rest c.in_ok-move_if.ensures.moved c.loop-mark.invariant
+    (unmarked c.args.marks.now (formula_trees c.args.formulas.items)) (omega arith) c.in_ok-move_if.ensures.rest c.in_ok-move_if.ensures.moved
+    c.loop-mark.invariant
 
 pub returns : goal.returns
 returns c =

@@ -15,4 +15,5 @@ loop-part-preserved c =
 
 pub returns : goal.returns
 returns c =
-    flat_done conjuncts c.loop-part.left.items c.loop-part.out.items (flat_map conjuncts (formula_trees c.args.parts.items)) (search rules) c.loop-part.invariant
+    flat_done conjuncts c.loop-part.left.items c.loop-part.out.items (flat_map conjuncts (formula_trees c.args.parts.items)) (search rules)
+    c.loop-part.invariant

@@ -5,7 +5,8 @@ use Rattle.cf_formula.specs.Members.{conjuncts}
 use Rattle.cf_formula.proofs.members.all_conjuncts.Given as goal
 
 abbrev pub invariant-loop-part : goal.invariant-loop-part
-invariant-loop-part l = formula_trees l.out.items ++ flat_map conjuncts (formula_trees (reverse l.left.items)) ≡ flat_map conjuncts (formula_trees l.fn.parts.items)
+invariant-loop-part l = formula_trees l.out.items ++ flat_map conjuncts (formula_trees (reverse l.left.items)) ≡ flat_map conjuncts
+    (formula_trees l.fn.parts.items)
 
 abbrev pub decreases-loop-part : goal.decreases-loop-part
 decreases-loop-part l = length l.left.items

@@ -7,4 +7,5 @@ use Rattle.cf_formula.proofs.members.needless_ors.Goals as goal
 pub loop-formula-preserved : goal.loop-formula-preserved
 loop-formula-preserved c =
     mark_step (is_needless_or (formula_trees c.args.members.now)) c.args.members.now c.loop-formula.marks.items c.push.new.self.items
-    c.loop-formula.formula-index c.formula-item.result c.is_needless_or.result (omega arith) c.formula-item.is (search rules) (search rules) c.loop-formula.invariant
+    c.loop-formula.formula-index c.formula-item.result c.is_needless_or.result (omega arith) c.formula-item.is (search rules) (search rules)
+    c.loop-formula.invariant

@@ -6,5 +6,5 @@ use Rattle.cf_formula.proofs.members.without_needless_ors.Goals as goal
 
 pub returns : goal.returns
 returns c =
-    kept_are (is_needless_or (formula_trees c.args.members.items)) (formula_trees c.args.members.items) (formula_trees c.in_ok-needed.needed.items) _ _
+    kept_are is_needless_or c.args.members.items c.deref.result.now (formula_trees c.in_ok-needed.needed.items) _ _ (search rules)
     c.in_ok-needless.ensures (search rules) c.in_ok-needed.ensures
