@@ -1,23 +1,30 @@
 -- The code that writes relations as formulas.
-use Rattle.std.proofs.Common.{◌≡◌, ℕ, suc, ◌+◌, ◌<◌, ◌≤◌, List, [], ◌∷◌, ◌++◌, map, filter, drop, get_or, length, Bool, true, false, cond, not, ◌||◌, Option, Some, None, Result, Ok, Err, refl, sym, ◌∙◌, ap, arith, append_assoc, add-one, drop-cons, subst}
+use Rattle.std.proofs.Common.{◌≡◌, ℕ, suc, ℤ, pos, negsuc, neg_ℤ, ◌+◌, ◌<◌, ◌≤◌, List, [], ◌∷◌, ◌++◌, map, filter, drop, get_or, length, Bool, true, false, cond, not, ◌||◌, Option, Some, None, Result, Ok, Err, refl, sym, ◌∙◌, ap, arith, append_assoc, add-one, drop-cons, subst}
+use Rattle.std.specs.Prelude.{int_lt}
 use Rattle.std.proofs.lemmas.List.{append-nil, get_or-map, length-map}
 use Rattle.std.proofs.Math.ListN.{drop_of_length-le}
 use Rattle.cf_tree.specs.declared.base.Order.{Order}
 use Rattle.cf_tree.specs.declared.base.Order.TheVariants.{Eq, Ne, Lt, Le, Gt, Ge}
 use Rattle.cf_tree.specs.RelTree.{TermTree, SetTree, RelTree, rel_true, rel_false, rel_compare, rel_same_set, rel_other_set, rel_subset, rel_divides, rel_and, rel_or, rel_not}
-use Rattle.cf_linear.specs.Cases.{Atom, atom_true, atom_false, atom_compare, atom_divides, atom_not_divides, atom_same, atom_other, atom_subset, atom_not_subset, Normal, normal_atom, normal_and, normal_or, negation_normal, Signed, atom_cases, disjuncts, case_count, write_atom}
+use Rattle.cf_linear.specs.Cases.{Atom, atom_true, atom_false, atom_compare, atom_divides, atom_not_divides, atom_same, atom_other, atom_subset, atom_not_subset, Normal, normal_atom, normal_and, normal_or, negation_normal, Signed, atom_cases, disjuncts, case_count, write_atom, input_row}
 use Rattle.cf_linear.specs.declared.refusal.RowFault.{RowFault}
 use Rattle.cf_linear.specs.declared.refusal.RowFault.TheVariants.{Past, NoMemory}
-use Rattle.cf_linear.specs.Layout.{Layout, first_free}
+use Rattle.cf_linear.specs.Layout.{Layout, first_free, masks, set_count, region_column}
+use Rattle.cf_linear.specs.Rows.{Row, put, comb, comb_passes}
+use Rattle.cf_linear.specs.Written.{plus}
+use Rattle.cf_formula.specs.Members.{conj, disj}
 use Rattle.cf_linear.specs.Parts.{IsRowFault}
 use Rattle.cf_cases.specs.Counts.{order_as}
 use Rattle.cf_cases.specs.Picking.{atom_at, case_by, joined}
 use Rattle.cf_cases.specs.SystemBuilders.{with_case}
+use Rattle.cf_cases.proofs.PartLaws.{plain-and, plain-or}
 use Rattle.cf_cases.proofs.PickLaws.{length-cases, case-by}
+use Rattle.cf_formula.specs.Atoms.{ge, eq}
+use Rattle.cf_formula.specs.FormulaView.{formula_tree}
 use Rattle.cf_formula.specs.declared.ways.Written.{Written as DeclaredWritten}
 use Rattle.cf_formula.specs.Formulas.{Formula}
-use Rattle.cf_formula.specs.Writing.{Written, Ways, with_way, ways_written, Flat, flat_difference, flat_or_ways, atom_written, normal_written}
-use Rattle.cf_formula.specs.WritingAnswers.{IsAtom, atom_in, way_count, empty_rows, ways_pass, with_rows_way, all_ways, formula_behind, flat_formula, flat_passes, written_or, normal_passes, joined_written, WrittenAnswer}
+use Rattle.cf_formula.specs.Writing.{Written, Ways, with_way, ways_written, Flat, with_abs, in_order, turned_parts, compared, flat_difference, flat_or_ways, atom_written, normal_written, region_formulas}
+use Rattle.cf_formula.specs.WritingAnswers.{IsAtom, atom_in, way_count, empty_rows, ways_pass, with_rows_way, all_ways, formula_behind, flat_formula, flat_passes, flat_in, flat_in_passes, with_abs_passes, at_least_passes, at_most_passes, compared_passes, joined_formula, written_or, normal_passes, joined_written, WrittenAnswer}
 
 -- ---- lists that a loop walks
 pub mapped_step : {A B : Type 0} (f : A → B) (out new whole : List B) (x : A) (rest : List A) (y : B) → y ≡ f x → new ≡ out ++ (y ∷ []) →
@@ -29,6 +36,49 @@ pub kept_step : {A : Type 0} (p : A → Bool) (out new whole : List A) (x : A) (
     out ++ filter p (x ∷ rest) ≡ whole → new ++ filter p rest ≡ whole
 kept_step p out new whole x rest true e n inv = ap (λ s. s ++ filter p rest) n ∙ append_assoc out (x ∷ []) (filter p rest) ∙ (rw (← e) at inv)
 kept_step p out new whole x rest false e n inv = ap (λ s. s ++ filter p rest) (n ∙ append-nil out) ∙ (rw (← e) at inv)
+
+-- ---- absolute values
+pub abs_first : (r : Row) (p : ℤ × Row) (parts all : List (ℤ × Row)) (k : ℤ) (s : Row) (e : RowFault) → all ≡ p ∷ parts → k ≡ p.0 → s ≡ p.1 →
+    IsRowFault (comb_passes (pos 1) r k s || with_abs_passes (comb (pos 1) r k s) parts) e → IsRowFault (with_abs_passes r all) e
+abs_first r p parts all k s NoMemory is f g h = tt
+abs_first r (k0, s0) parts all k s Past is f g h = rw is (rw (← f, ← g, h) refl)
+
+pub abs_second : (r : Row) (p : ℤ × Row) (parts all : List (ℤ × Row)) (k m : ℤ) (s t : Row) (e : RowFault) → all ≡ p ∷ parts → k ≡ p.0 → s ≡ p.1 →
+    (comb_passes (pos 1) r k s || with_abs_passes (comb (pos 1) r k s) parts) ≡ false → m ≡ neg_ℤ k → t ≡ p.1 →
+    IsRowFault (comb_passes (pos 1) r m t || with_abs_passes (comb (pos 1) r m t) parts) e → IsRowFault (with_abs_passes r all) e
+abs_second r p parts all k m s t NoMemory is f g h i j z = tt
+abs_second r (k0, s0) parts all k m s t Past is f g h i j z =
+    let a : (comb_passes (pos 1) r k0 s0 || with_abs_passes (comb (pos 1) r k0 s0) parts) ≡ false = rw (← f, ← g) h in
+    let b : (comb_passes (pos 1) r (neg_ℤ k0) s0 || with_abs_passes (comb (pos 1) r (neg_ℤ k0) s0) parts) ≡ true = rw (← f, ← i, ← j) z in
+    rw (is, a, b) refl
+
+pub abs_made : (r : Row) (p : ℤ × Row) (parts all : List (ℤ × Row)) (k m : ℤ) (s t : Row) (b : Bool) (f g h : Formula) → all ≡ p ∷ parts → k ≡ p.0 → s ≡ p.1 →
+    f ≡ with_abs (comb (pos 1) r k s) parts → (comb_passes (pos 1) r k s || with_abs_passes (comb (pos 1) r k s) parts) ≡ false → m ≡ neg_ℤ k → t ≡ p.1 →
+    g ≡ with_abs (comb (pos 1) r m t) parts → (comb_passes (pos 1) r m t || with_abs_passes (comb (pos 1) r m t) parts) ≡ false → b ≡ int_lt p.0 (pos 0) →
+    h ≡ joined_formula b f g → (h ≡ with_abs r all) × (with_abs_passes r all ≡ false)
+abs_made r (k0, s0) parts all k m s t b f g h is e1 e2 e3 e4 e5 e6 e7 e8 lt j =
+    let x : (comb_passes (pos 1) r k0 s0 || with_abs_passes (comb (pos 1) r k0 s0) parts) ≡ false = rw (← e1, ← e2) e4 in
+    let y : (comb_passes (pos 1) r (neg_ℤ k0) s0 || with_abs_passes (comb (pos 1) r (neg_ℤ k0) s0) parts) ≡ false = rw (← e1, ← e5, ← e6) e8 in
+    let u : f ≡ with_abs (comb (pos 1) r k0 s0) parts = e3 ∙ ap (λ z. with_abs (comb (pos 1) r z s) parts) e1 ∙ ap (λ z. with_abs (comb (pos 1) r k0 z) parts) e2 in
+    let v : g ≡ with_abs (comb (pos 1) r (neg_ℤ k0) s0) parts =
+    e7 ∙ ap (λ z. with_abs (comb (pos 1) r z t) parts) (e5 ∙ ap neg_ℤ e1) ∙ ap (λ z. with_abs (comb (pos 1) r (neg_ℤ k0) z) parts) e6 in
+    (j ∙ ap (λ z. joined_formula z f g) lt ∙ ap (λ z. joined_formula (int_lt k0 (pos 0)) z g) u ∙
+    ap (λ z. joined_formula (int_lt k0 (pos 0)) (with_abs (comb (pos 1) r k0 s0) parts) z) v ∙
+    by_sign (int_lt k0 (pos 0)) (with_abs (comb (pos 1) r k0 s0) parts) (with_abs (comb (pos 1) r (neg_ℤ k0) s0) parts) ∙ sym (ap (with_abs r) is),
+    rw (is, x, y) refl)
+  where
+    by_sign : (b : Bool) (f g : Formula) → joined_formula b f g ≡ cond b (conj (f ∷ g ∷ [])) (disj (f ∷ g ∷ []))
+    by_sign true f g = refl
+    by_sign false f g = refl
+
+pub ne_made : (f : Flat) (x y z : Formula) →
+    (x ≡ with_abs (plus (comb (negsuc 0) f.row (pos 0) []) (negsuc 0)) (turned_parts f.parts)) × (at_most_passes (negsuc 0) f ≡ false) →
+    (y ≡ with_abs (plus f.row (negsuc 0)) (in_order f.parts)) × (at_least_passes (negsuc 0) f ≡ false) → z ≡ joined_formula false x y →
+    (z ≡ compared Ne f) × (compared_passes Ne f ≡ false)
+ne_made f x y z p q j =
+    (j ∙ ap (λ a. disj (a ∷ y ∷ [])) p.0 ∙
+    ap (λ a. disj (with_abs (plus (comb (negsuc 0) f.row (pos 0) []) (negsuc 0)) (turned_parts f.parts) ∷ a ∷ [])) q.0,
+    rw (p.1, q.1) refl)
 
 -- ---- atoms
 pub normal_is : (d : Bool) (r : RelTree) → IsAtom r → negation_normal d r ≡ normal_atom (atom_in (negation_normal d r))
@@ -97,6 +147,12 @@ way_is a i h =
     sym (get_or-map (λ (s : Signed). s ∷ []) (atom_cases a) i (atom_at a i) [] k) ∙ case-by (normal_atom a) i h in
     let g : get_or (atom_cases a) i (atom_at a i) ≡ atom_at a i = cc e in
     rw add-one (drop-cons (atom_cases a) i (atom_at a i) k ∙ ap (λ s. s ∷ drop (suc i) (atom_cases a)) g)
+
+pub is_way : (d : Bool) (r : RelTree) (i n : ℕ) → IsAtom r → n ≡ way_count d r → i < n → i < case_count (negation_normal d r)
+is_way d r i n h e f = subst (λ m. i < m) (e ∙ way_count_is d r h) f
+
+pub no_way : (d : Bool) (r : RelTree) (i n : ℕ) → IsAtom r → n ≡ way_count d r → n ≤ i → case_count (negation_normal d r) ≤ i
+no_way d r i n h e f = subst (λ m. m ≤ i) (e ∙ way_count_is d r h) f
 
 case_is : (a : Atom) (i : ℕ) → case_by (normal_atom a) i ≡ atom_at a i ∷ []
 unfolding case_by
@@ -179,6 +235,63 @@ pub flat_fails : (l : Layout) (n : Normal) (a : Atom) (next : ℕ) (e : RowFault
 flat_fails l n a next NoMemory e h = tt
 flat_fails l n a next Past e h = rw (e, h) refl
 
+flat_is : (l : Layout) (d : Bool) (r : RelTree) → IsAtom r → flat_formula l (atom_in (negation_normal d r)) ≡ flat_in l d r
+flat_is l true rel_true h = refl
+flat_is l false rel_true h = refl
+flat_is l true rel_false h = refl
+flat_is l false rel_false h = refl
+flat_is l true (rel_compare o a b) h = refl
+flat_is l false (rel_compare o a b) h = refl
+flat_is l true (rel_same_set a b) h = refl
+flat_is l false (rel_same_set a b) h = refl
+flat_is l true (rel_other_set a b) h = refl
+flat_is l false (rel_other_set a b) h = refl
+flat_is l true (rel_subset a b) h = refl
+flat_is l false (rel_subset a b) h = refl
+flat_is l true (rel_divides k t) h = refl
+flat_is l false (rel_divides k t) h = refl
+flat_is l d (rel_and p q) h = absurd h
+flat_is l d (rel_or p q) h = absurd h
+flat_is l d (rel_not p) h = absurd h
+
+passes_is : (l : Layout) (d : Bool) (r : RelTree) → IsAtom r → flat_passes l (atom_in (negation_normal d r)) ≡ flat_in_passes l d r
+passes_is l true rel_true h = refl
+passes_is l false rel_true h = refl
+passes_is l true rel_false h = refl
+passes_is l false rel_false h = refl
+passes_is l true (rel_compare o a b) h = refl
+passes_is l false (rel_compare o a b) h = refl
+passes_is l true (rel_same_set a b) h = refl
+passes_is l false (rel_same_set a b) h = refl
+passes_is l true (rel_other_set a b) h = refl
+passes_is l false (rel_other_set a b) h = refl
+passes_is l true (rel_subset a b) h = refl
+passes_is l false (rel_subset a b) h = refl
+passes_is l true (rel_divides k t) h = refl
+passes_is l false (rel_divides k t) h = refl
+passes_is l d (rel_and p q) h = absurd h
+passes_is l d (rel_or p q) h = absurd h
+passes_is l d (rel_not p) h = absurd h
+
+pub flat_atom : (l : Layout) (d : Bool) (r : RelTree) (next : ℕ) (x : DeclaredWritten) (f : Formula) → IsAtom r → flat_in l d r ≡ Some f →
+    flat_in_passes l d r ≡ false → formula_tree x.formula ≡ f → x.next ≡ next →
+    WrittenAnswer (normal_passes l (negation_normal d r) next) (normal_written l (negation_normal d r) next) (Ok x)
+flat_atom l d r next x f h e g k m =
+    let w = flat_made l (negation_normal d r) (atom_in (negation_normal d r)) next f (normal_is d r h) (flat_is l d r h ∙ e) (passes_is l d r h ∙ g) in
+    (rw (k, m) w.0, w.1)
+
+pub ways_atom : (l : Layout) (d : Bool) (r : RelTree) (next : ℕ) (y : Result DeclaredWritten RowFault) → IsAtom r → flat_in l d r ≡ None →
+    flat_in_passes l d r ≡ false → WrittenAnswer (ways_pass l (atom_cases (atom_in (negation_normal d r))) next)
+    (ways_written l (atom_in (negation_normal d r)) next) y →
+    WrittenAnswer (normal_passes l (negation_normal d r) next) (normal_written l (negation_normal d r) next) y
+ways_atom l d r next y h e g k =
+    ways_made l (negation_normal d r) (atom_in (negation_normal d r)) next y (normal_is d r h) (flat_is l d r h ∙ e) (passes_is l d r h ∙ g) k
+
+pub flat_fault : (l : Layout) (d : Bool) (r : RelTree) (next : ℕ) (e : RowFault) → IsAtom r → IsRowFault (flat_in_passes l d r) e →
+    IsRowFault (normal_passes l (negation_normal d r) next) e
+flat_fault l d r next e h k =
+    flat_fails l (negation_normal d r) (atom_in (negation_normal d r)) next e (normal_is d r h) (subst (λ b. IsRowFault b e) (sym (passes_is l d r h)) k)
+
 -- ---- two parts
 two_written : (l : Layout) (b : Bool) (n m : Normal) (next : ℕ) →
     normal_written l (joined b n m) next ≡ joined_written b (normal_written l n next) (normal_written l m (normal_written l n next).next)
@@ -205,3 +318,54 @@ pub second_fails : (l : Layout) (b : Bool) (whole n m : Normal) (next : ℕ) (w 
     w ≡ normal_written l n next → normal_passes l n next ≡ false → IsRowFault (normal_passes l m w.next) e → IsRowFault (normal_passes l whole next) e
 second_fails l b whole n m next w NoMemory j f g h = tt
 second_fails l b whole n m next w Past j f g h = rw (j, two_pass l b n m next, g, ← f) h
+
+pub and_made : (l : Layout) (d : Bool) (p q : RelTree) (next : ℕ) (w u : Written) (r : Result DeclaredWritten RowFault) →
+    w ≡ normal_written l (negation_normal d p) next → normal_passes l (negation_normal d p) next ≡ false →
+    u ≡ normal_written l (negation_normal d q) w.next → normal_passes l (negation_normal d q) w.next ≡ false →
+    WrittenAnswer false (joined_written d w u) r →
+    WrittenAnswer (normal_passes l (negation_normal d (rel_and p q)) next) (normal_written l (negation_normal d (rel_and p q)) next) r
+and_made l d p q next w u r = two_made l d (negation_normal d (rel_and p q)) (negation_normal d p) (negation_normal d q) next w u r (plain-and d p q)
+
+pub or_made : (l : Layout) (d : Bool) (p q : RelTree) (next : ℕ) (w u : Written) (r : Result DeclaredWritten RowFault) →
+    w ≡ normal_written l (negation_normal d p) next → normal_passes l (negation_normal d p) next ≡ false →
+    u ≡ normal_written l (negation_normal d q) w.next → normal_passes l (negation_normal d q) w.next ≡ false →
+    WrittenAnswer false (joined_written (not d) w u) r →
+    WrittenAnswer (normal_passes l (negation_normal d (rel_or p q)) next) (normal_written l (negation_normal d (rel_or p q)) next) r
+or_made l d p q next w u r = two_made l (not d) (negation_normal d (rel_or p q)) (negation_normal d p) (negation_normal d q) next w u r (plain-or d p q)
+
+pub and_first : (l : Layout) (d : Bool) (p q : RelTree) (next : ℕ) (e : RowFault) → IsRowFault (normal_passes l (negation_normal d p) next) e →
+    IsRowFault (normal_passes l (negation_normal d (rel_and p q)) next) e
+and_first l d p q next e h = first_fails l d (negation_normal d (rel_and p q)) (negation_normal d p) (negation_normal d q) next e (plain-and d p q) h
+
+pub or_first : (l : Layout) (d : Bool) (p q : RelTree) (next : ℕ) (e : RowFault) → IsRowFault (normal_passes l (negation_normal d p) next) e →
+    IsRowFault (normal_passes l (negation_normal d (rel_or p q)) next) e
+or_first l d p q next e h = first_fails l (not d) (negation_normal d (rel_or p q)) (negation_normal d p) (negation_normal d q) next e (plain-or d p q) h
+
+pub and_second : (l : Layout) (d : Bool) (p q : RelTree) (next : ℕ) (w : Written) (e : RowFault) →
+    w ≡ normal_written l (negation_normal d p) next → normal_passes l (negation_normal d p) next ≡ false →
+    IsRowFault (normal_passes l (negation_normal d q) w.next) e → IsRowFault (normal_passes l (negation_normal d (rel_and p q)) next) e
+and_second l d p q next w e f g h =
+    second_fails l d (negation_normal d (rel_and p q)) (negation_normal d p) (negation_normal d q) next w e (plain-and d p q) f g h
+
+pub or_second : (l : Layout) (d : Bool) (p q : RelTree) (next : ℕ) (w : Written) (e : RowFault) →
+    w ≡ normal_written l (negation_normal d p) next → normal_passes l (negation_normal d p) next ≡ false →
+    IsRowFault (normal_passes l (negation_normal d q) w.next) e → IsRowFault (normal_passes l (negation_normal d (rel_or p q)) next) e
+or_second l d p q next w e f g h =
+    second_fails l (not d) (negation_normal d (rel_or p q)) (negation_normal d p) (negation_normal d q) next w e (plain-or d p q) f g h
+
+-- ---- regions
+two_maps : {A B C : Type 0} (f : B → C) (g : A → B) (xs : List A) → map f (map g xs) ≡ map (λ x. f (g x)) xs
+two_maps f g [] = refl
+two_maps f g (x ∷ xs) = ap (λ ys. f (g x) ∷ ys) (two_maps f g xs)
+
+pub regions_made : (l : Layout) (a b c : List Formula) (none sums none_too counts : List Row) → none ≡ [] →
+    sums ≡ none ++ map (input_row l) (masks (length l.inputs)) → b ≡ a ++ map eq sums → none_too ≡ [] →
+    counts ≡ none_too ++ map (λ m. put (region_column l m) (pos 1) []) (masks (set_count l)) → c ≡ b ++ map ge counts → c ≡ a ++ region_formulas l
+regions_made l a b c none sums none_too counts n s e m t g =
+    let unit : ℕ → Row = λ m. put (region_column l m) (pos 1) [] in
+    let x : map eq sums ≡ map (λ m. eq (input_row l m)) (masks (length l.inputs)) =
+    ap (map eq) (s ∙ ap (λ rs. rs ++ map (input_row l) (masks (length l.inputs))) n) ∙ two_maps eq (input_row l) (masks (length l.inputs)) in
+    let y : map ge counts ≡ map (λ m. ge (unit m)) (masks (set_count l)) =
+    ap (map ge) (t ∙ ap (λ rs. rs ++ map unit (masks (set_count l))) m) ∙ two_maps ge unit (masks (set_count l)) in
+    g ∙ ap (λ fs. fs ++ map ge counts) e ∙ append_assoc a (map eq sums) (map ge counts) ∙ ap (λ fs. a ++ (fs ++ map ge counts)) x ∙
+    ap (λ fs. a ++ (map (λ m. eq (input_row l m)) (masks (length l.inputs)) ++ fs)) y

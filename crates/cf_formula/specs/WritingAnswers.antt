@@ -150,6 +150,15 @@ abbrev pub flat_passes : Layout → Atom → Bool
 flat_passes l (atom_compare o t u) = difference_passes l t u || passes_behind (compared_passes o) (flat_difference l t u)
 flat_passes l a = false
 
+-- the same of a relation without `and`, `or` and `not`, or of its negation
+abbrev pub flat_in : Layout → Bool → RelTree → Option Formula
+flat_in l d (rel_compare o t u) = flat_formula l (atom_compare (order_as d o) t u)
+flat_in l d r = None
+
+abbrev pub flat_in_passes : Layout → Bool → RelTree → Bool
+flat_in_passes l d (rel_compare o t u) = flat_passes l (atom_compare (order_as d o) t u)
+flat_in_passes l d r = false
+
 -- ---- a relation
 abbrev pub written_or : ℕ → Option Formula → Written → Written
 written_or next None w = w

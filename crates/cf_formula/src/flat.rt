@@ -430,6 +430,7 @@ fn raised(alloc: Global, row: &Row, n: i128, parts: &[Part]) -> Result<Formula, 
 
 // The row and the absolute values are at least 0 together.
 #[cycle(with_abs)]
+#[tactic(auto, using(crate::proofs::RewritingCode::first_fault, crate::proofs::RewritingCode::second_fault, crate::proofs::WritingCode::abs_first, crate::proofs::WritingCode::abs_second, crate::proofs::WritingCode::abs_made))]
 fn with_abs(alloc: Global, row: &Row, parts: &[Part]) -> Result<Formula, RowFault>
     ensures { FormulaAnswer (with_abs_passes row.now parts.now) (with_abs row.now parts.now) result }
 {

@@ -11,8 +11,8 @@ ghost use Rattle.cf_formula.specs.ConditionsView.{conditions_of};
 ghost use Rattle.cf_formula.specs.FormulaView.{formula_tree, formula_trees};
 ghost use Rattle.cf_formula.specs.States.{add, no_conditions};
 ghost use Rattle.cf_formula.specs.StateView.{columns_of};
-ghost use Rattle.cf_formula.specs.Writing.{written, normal_written, atom_written, region_formulas};
-ghost use Rattle.cf_formula.specs.WritingAnswers.{IsAtom, atom_in, written_of, relation_passes, normal_passes, atom_passes, joined_written, flat_formula, flat_passes};
+ghost use Rattle.cf_formula.specs.Writing.{written, normal_written, region_formulas};
+ghost use Rattle.cf_formula.specs.WritingAnswers.{IsAtom, written_of, relation_passes, normal_passes, joined_written, flat_in, flat_in_passes};
 ghost use Rattle.cf_formula.specs.WritingAnswers.{WrittenAnswer, FlatFormulaAnswer, with_region_formulas, first_columns_of};
 
 use crate::conditions::Conditions;
@@ -58,6 +58,7 @@ fn with_regions(alloc: Global, layout: &Layout, main: Written) -> Result<Written
 }
 
 // Adds the formulas of the counts of regions.
+#[tactic(auto, using(crate::proofs::WritingCode::regions_made))]
 fn push_regions(alloc: Global, layout: &Layout, parts: &mut Vec<Formula>) -> Result<(), NoMemory>
     requires sets { set_count (plain_layout layout.now) ≤ MOST_SETS }
     requires room { first_free (plain_layout layout.now) < 2 ^ 32 }
@@ -74,6 +75,7 @@ fn push_regions(alloc: Global, layout: &Layout, parts: &mut Vec<Formula>) -> Res
 
 // The formula of the relation, where `holds`, or of its negation; quotients take the columns from `next` on.
 #[cycle(part_written)]
+#[tactic(auto, using(crate::proofs::WritingCode::and_made, crate::proofs::WritingCode::and_first, crate::proofs::WritingCode::and_second, crate::proofs::WritingCode::or_made, crate::proofs::WritingCode::or_first, crate::proofs::WritingCode::or_second))]
 fn part_written(
     alloc: Global,
     layout: &Layout,
@@ -128,6 +130,7 @@ fn joined_written(
 }
 
 // The formula of the atom, where `holds`, or of its negation.
+#[tactic(auto, using(crate::proofs::WritingCode::flat_atom, crate::proofs::WritingCode::ways_atom, crate::proofs::WritingCode::flat_fault))]
 fn atom_written(
     alloc: Global,
     layout: &Layout,
@@ -160,8 +163,7 @@ fn flat_of(
     requires atom { IsAtom (rel_tree rel.now) }
     requires sets { set_count (plain_layout layout.now) ≤ MOST_SETS }
     requires room { first_free (plain_layout layout.now) < 2 ^ 32 }
-    ensures { FlatFormulaAnswer (flat_passes (plain_layout layout.now) (atom_in (negation_normal holds (rel_tree rel.now))))
-        (flat_formula (plain_layout layout.now) (atom_in (negation_normal holds (rel_tree rel.now)))) result }
+    ensures { FlatFormulaAnswer (flat_in_passes (plain_layout layout.now) holds (rel_tree rel.now)) (flat_in (plain_layout layout.now) holds (rel_tree rel.now)) result }
 {
     match rel {
         Rel::Compare { order, left, right } => {
