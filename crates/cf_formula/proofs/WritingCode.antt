@@ -21,10 +21,12 @@ use Rattle.cf_cases.proofs.PartLaws.{plain-and, plain-or}
 use Rattle.cf_cases.proofs.PickLaws.{length-cases, case-by}
 use Rattle.cf_formula.specs.Atoms.{ge, eq}
 use Rattle.cf_formula.specs.FormulaView.{formula_tree}
+use Rattle.cf_formula.specs.Answers.{FormulaAnswer}
+use Rattle.cf_formula.specs.declared.formula.Formula.{Formula as DeclaredFormula}
 use Rattle.cf_formula.specs.declared.ways.Written.{Written as DeclaredWritten}
 use Rattle.cf_formula.specs.Formulas.{Formula}
 use Rattle.cf_formula.specs.Writing.{Written, Ways, with_way, ways_written, Flat, with_abs, in_order, turned_parts, compared, flat_difference, flat_or_ways, atom_written, normal_written, region_formulas}
-use Rattle.cf_formula.specs.WritingAnswers.{IsAtom, atom_in, way_count, empty_rows, ways_pass, with_rows_way, all_ways, formula_behind, flat_formula, flat_passes, flat_in, flat_in_passes, with_abs_passes, at_least_passes, at_most_passes, compared_passes, joined_formula, written_or, normal_passes, joined_written, WrittenAnswer}
+use Rattle.cf_formula.specs.WritingAnswers.{IsAtom, atom_in, way_count, empty_rows, ways_pass, with_rows_way, all_ways, formula_behind, flat_formula, flat_passes, flat_in, flat_in_passes, with_abs_passes, part_passes, with_part, at_least_passes, at_most_passes, compared_passes, joined_formula, written_or, normal_passes, joined_written, WrittenAnswer}
 
 -- ---- lists that a loop walks
 pub mapped_step : {A B : Type 0} (f : A → B) (out new whole : List B) (x : A) (rest : List A) (y : B) → y ≡ f x → new ≡ out ++ (y ∷ []) →
@@ -38,38 +40,27 @@ kept_step p out new whole x rest true e n inv = ap (λ s. s ++ filter p rest) n 
 kept_step p out new whole x rest false e n inv = ap (λ s. s ++ filter p rest) (n ∙ append-nil out) ∙ (rw (← e) at inv)
 
 -- ---- absolute values
-pub abs_first : (r : Row) (p : ℤ × Row) (parts all : List (ℤ × Row)) (k : ℤ) (s : Row) (e : RowFault) → all ≡ p ∷ parts → k ≡ p.0 → s ≡ p.1 →
-    IsRowFault (comb_passes (pos 1) r k s || with_abs_passes (comb (pos 1) r k s) parts) e → IsRowFault (with_abs_passes r all) e
-abs_first r p parts all k s NoMemory is f g h = tt
-abs_first r (k0, s0) parts all k s Past is f g h = rw is (rw (← f, ← g, h) refl)
+answer_as : (a b : Bool) (f g : Formula) (y : Result DeclaredFormula RowFault) → a ≡ b → f ≡ g → FormulaAnswer b g y → FormulaAnswer a f y
+answer_as a b f g y e h k = rw (e, h) k
 
-pub abs_second : (r : Row) (p : ℤ × Row) (parts all : List (ℤ × Row)) (k m : ℤ) (s t : Row) (e : RowFault) → all ≡ p ∷ parts → k ≡ p.0 → s ≡ p.1 →
-    (comb_passes (pos 1) r k s || with_abs_passes (comb (pos 1) r k s) parts) ≡ false → m ≡ neg_ℤ k → t ≡ p.1 →
-    IsRowFault (comb_passes (pos 1) r m t || with_abs_passes (comb (pos 1) r m t) parts) e → IsRowFault (with_abs_passes r all) e
-abs_second r p parts all k m s t NoMemory is f g h i j z = tt
-abs_second r (k0, s0) parts all k m s t Past is f g h i j z =
-    let a : (comb_passes (pos 1) r k0 s0 || with_abs_passes (comb (pos 1) r k0 s0) parts) ≡ false = rw (← f, ← g) h in
-    let b : (comb_passes (pos 1) r (neg_ℤ k0) s0 || with_abs_passes (comb (pos 1) r (neg_ℤ k0) s0) parts) ≡ true = rw (← f, ← i, ← j) z in
-    rw (is, a, b) refl
+by_sign : (b : Bool) (f g : Formula) → cond b (conj (f ∷ g ∷ [])) (disj (f ∷ g ∷ [])) ≡ joined_formula b f g
+by_sign true f g = refl
+by_sign false f g = refl
 
-pub abs_made : (r : Row) (p : ℤ × Row) (parts all : List (ℤ × Row)) (k m : ℤ) (s t : Row) (b : Bool) (f g h : Formula) → all ≡ p ∷ parts → k ≡ p.0 → s ≡ p.1 →
-    f ≡ with_abs (comb (pos 1) r k s) parts → (comb_passes (pos 1) r k s || with_abs_passes (comb (pos 1) r k s) parts) ≡ false → m ≡ neg_ℤ k → t ≡ p.1 →
-    g ≡ with_abs (comb (pos 1) r m t) parts → (comb_passes (pos 1) r m t || with_abs_passes (comb (pos 1) r m t) parts) ≡ false → b ≡ int_lt p.0 (pos 0) →
-    h ≡ joined_formula b f g → (h ≡ with_abs r all) × (with_abs_passes r all ≡ false)
-abs_made r (k0, s0) parts all k m s t b f g h is e1 e2 e3 e4 e5 e6 e7 e8 lt j =
-    let x : (comb_passes (pos 1) r k0 s0 || with_abs_passes (comb (pos 1) r k0 s0) parts) ≡ false = rw (← e1, ← e2) e4 in
-    let y : (comb_passes (pos 1) r (neg_ℤ k0) s0 || with_abs_passes (comb (pos 1) r (neg_ℤ k0) s0) parts) ≡ false = rw (← e1, ← e5, ← e6) e8 in
-    let u : f ≡ with_abs (comb (pos 1) r k0 s0) parts = e3 ∙ ap (λ z. with_abs (comb (pos 1) r z s) parts) e1 ∙ ap (λ z. with_abs (comb (pos 1) r k0 z) parts) e2 in
-    let v : g ≡ with_abs (comb (pos 1) r (neg_ℤ k0) s0) parts =
-    e7 ∙ ap (λ z. with_abs (comb (pos 1) r z t) parts) (e5 ∙ ap neg_ℤ e1) ∙ ap (λ z. with_abs (comb (pos 1) r (neg_ℤ k0) z) parts) e6 in
-    (j ∙ ap (λ z. joined_formula z f g) lt ∙ ap (λ z. joined_formula (int_lt k0 (pos 0)) z g) u ∙
-    ap (λ z. joined_formula (int_lt k0 (pos 0)) (with_abs (comb (pos 1) r k0 s0) parts) z) v ∙
-    by_sign (int_lt k0 (pos 0)) (with_abs (comb (pos 1) r k0 s0) parts) (with_abs (comb (pos 1) r (neg_ℤ k0) s0) parts) ∙ sym (ap (with_abs r) is),
-    rw (is, x, y) refl)
-  where
-    by_sign : (b : Bool) (f g : Formula) → joined_formula b f g ≡ cond b (conj (f ∷ g ∷ [])) (disj (f ∷ g ∷ []))
-    by_sign true f g = refl
-    by_sign false f g = refl
+parts_pass : (r : Row) (p q : ℤ × Row) (parts all : List (ℤ × Row)) → all ≡ p ∷ parts → q ≡ (neg_ℤ p.0, p.1) →
+    with_abs_passes r all ≡ (part_passes r p parts || part_passes r q parts)
+parts_pass r (k, s) q parts all is t = rw (is, t) refl
+
+parts_made : (r : Row) (p q : ℤ × Row) (parts all : List (ℤ × Row)) → all ≡ p ∷ parts → q ≡ (neg_ℤ p.0, p.1) →
+    with_abs r all ≡ joined_formula (int_lt p.0 (pos 0)) (with_part r p parts) (with_part r q parts)
+parts_made r (k, s) q parts all is t = rw (is, t) (by_sign (int_lt k (pos 0)) (with_part r (k, s) parts) (with_part r (neg_ℤ k, s) parts))
+
+pub with_abs_by : (r : Row) (p q : ℤ × Row) (parts all : List (ℤ × Row)) (y : Result DeclaredFormula RowFault) →
+    FormulaAnswer (part_passes r p parts || part_passes r q parts) (joined_formula (int_lt p.0 (pos 0)) (with_part r p parts) (with_part r q parts)) y →
+    all ≡ p ∷ parts → q ≡ (neg_ℤ p.0, p.1) → FormulaAnswer (with_abs_passes r all) (with_abs r all) y
+with_abs_by r p q parts all y h is t =
+    answer_as (with_abs_passes r all) (part_passes r p parts || part_passes r q parts) (with_abs r all)
+    (joined_formula (int_lt p.0 (pos 0)) (with_part r p parts) (with_part r q parts)) y (parts_pass r p q parts all is t) (parts_made r p q parts all is t) h
 
 pub ne_made : (f : Flat) (x y z : Formula) →
     (x ≡ with_abs (plus (comb (negsuc 0) f.row (pos 0) []) (negsuc 0)) (turned_parts f.parts)) × (at_most_passes (negsuc 0) f ≡ false) →

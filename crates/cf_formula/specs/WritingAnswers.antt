@@ -22,7 +22,7 @@ use Rattle.cf_formula.specs.declared.ways.Written.{Written as DeclaredWritten}
 use Rattle.cf_formula.specs.Formulas.{Formula}
 use Rattle.cf_formula.specs.FormulaView.{formula_tree, formula_trees}
 use Rattle.cf_formula.specs.Members.{conj, disj}
-use Rattle.cf_formula.specs.Writing.{Written, Ways, rows_formula, with_way, Flat, plain_row, is_plain, flattened, no_flat, in_order, turned_parts, compared, flat_difference, normal_written, region_formulas}
+use Rattle.cf_formula.specs.Writing.{Written, Ways, rows_formula, with_way, Flat, plain_row, is_plain, flattened, no_flat, with_abs, in_order, turned_parts, compared, flat_difference, normal_written, region_formulas}
 use Rattle.cf_formula.specs.States.{Columns}
 
 -- ---- what is asked before anything else is known
@@ -113,6 +113,13 @@ with_abs_passes r [] = false
 with_abs_passes r ((k, s) ∷ parts) =
     (comb_passes (pos 1) r k s || with_abs_passes (comb (pos 1) r k s) parts) ||
     (comb_passes (pos 1) r (neg_ℤ k) s || with_abs_passes (comb (pos 1) r (neg_ℤ k) s) parts)
+
+-- the same with a part more, of which the row is at least 0
+abbrev pub part_passes : Row → ℤ × Row → List (ℤ × Row) → Bool
+part_passes r p parts = comb_passes (pos 1) r p.0 p.1 || with_abs_passes (comb (pos 1) r p.0 p.1) parts
+
+abbrev pub with_part : Row → ℤ × Row → List (ℤ × Row) → Formula
+with_part r p parts = with_abs (comb (pos 1) r p.0 p.1) parts
 
 -- the row with n more, and the absolute values
 abbrev pub raised_passes : ℤ → Row → List (ℤ × Row) → Bool

@@ -11,7 +11,7 @@ ghost use Rattle.cf_linear.specs.Written.{IsPlaced, abs_count, quotient_count, p
 ghost use Rattle.cf_formula.specs.Answers.{SubstAnswer, FormulaAnswer};
 ghost use Rattle.cf_formula.specs.FormulaView.{formula_tree};
 ghost use Rattle.cf_formula.specs.Writing.{plain_row, is_plain, with_plain, flattened, with_abs, in_order, turned_parts, compared, flat_difference};
-ghost use Rattle.cf_formula.specs.WritingAnswers.{flat_of, plain_passes, with_plain_passes, flattened_passes, with_abs_passes, raised_passes, at_least_passes, at_most_passes};
+ghost use Rattle.cf_formula.specs.WritingAnswers.{flat_of, plain_passes, with_plain_passes, flattened_passes, with_abs_passes, part_passes, with_part, raised_passes, at_least_passes, at_most_passes};
 ghost use Rattle.cf_formula.specs.WritingAnswers.{compared_passes, difference_passes, flat_formula, flat_passes, formula_behind, passes_behind, joined_formula, FlatAnswer, DifferenceAnswer, FlatFormulaAnswer, ScaledAnswer, NumberAnswer};
 ghost use Rattle.cf_linear.specs.Cases.{atom_compare};
 
@@ -83,6 +83,13 @@ impl Part {
         Ok(Part::new(neg(self.factor()), row))
     }
 
+    // The row with the part's row times its number.
+    fn added_to(&self, alloc: Global, row: &Row) -> Result<Row, RowFault>
+        ensures { SubstAnswer (comb_passes (pos 1) row.now self.now.0 self.now.1) (comb (pos 1) row.now self.now.0 self.now.1) result }
+    {
+        combined(alloc, row, &self.row, &self.factor)
+    }
+
     // Whether the absolute value is added.
     fn is_added(&self) -> bool
         ensures { result ≡ int_lt (pos 0) self.now.0 }
@@ -96,6 +103,15 @@ impl Part {
     {
         self.factor() < 0
     }
+}
+
+// The row with k times the other one.
+fn combined(alloc: Global, row: &Row, other: &Row, k: &i128) -> Result<Row, RowFault>
+    requires { IsWithin k.now }
+    ensures { SubstAnswer (comb_passes (pos 1) row.now k.now other.now) (comb (pos 1) row.now k.now other.now) result }
+{
+    let sum = row.combine(alloc, 1, other, *k)?;
+    Ok(sum)
 }
 
 // A row, and absolute values of rows times numbers.
@@ -430,36 +446,49 @@ fn raised(alloc: Global, row: &Row, n: i128, parts: &[Part]) -> Result<Formula, 
 
 // The row and the absolute values are at least 0 together.
 #[cycle(with_abs)]
-#[tactic(auto, using(crate::proofs::RewritingCode::first_fault, crate::proofs::RewritingCode::second_fault, crate::proofs::WritingCode::abs_first, crate::proofs::WritingCode::abs_second, crate::proofs::WritingCode::abs_made))]
+#[tactic(auto, using(crate::proofs::WritingCode::with_abs_by))]
 fn with_abs(alloc: Global, row: &Row, parts: &[Part]) -> Result<Formula, RowFault>
     ensures { FormulaAnswer (with_abs_passes row.now parts.now) (with_abs row.now parts.now) result }
 {
     match parts.split_first() {
         None => Ok(ge(alloc, row.try_copy(alloc)?)?),
         Some((part, rest)) => {
-            let first = with_one(alloc, row, part.factor(), part.row(), rest)?;
-            match with_one(alloc, row, neg(part.factor()), part.row(), rest) {
-                Ok(second) => Ok(joined(alloc, part.is_taken(), first, second)?),
-                Err(fault) => Err(without(first, fault)),
-            }
+            let turned = part.turned(alloc)?;
+            with_both(alloc, row, part, &turned, rest)
         }
     }
 }
 
-// The same with k times a row more.
+// The same with the part and with the one of the other sign: both, where it is taken away, or either.
+#[cycle(with_abs)]
+fn with_both(
+    alloc: Global,
+    row: &Row,
+    part: &Part,
+    turned: &Part,
+    parts: &[Part],
+) -> Result<Formula, RowFault>
+    ensures { FormulaAnswer (part_passes row.now part.now parts.now || part_passes row.now turned.now parts.now)
+        (joined_formula (int_lt part.now.0 (pos 0)) (with_part row.now part.now parts.now) (with_part row.now turned.now parts.now)) result }
+{
+    let first = with_one(alloc, row, part, parts)?;
+    match with_one(alloc, row, turned, parts) {
+        Ok(second) => Ok(joined(alloc, part.is_taken(), first, second)?),
+        Err(fault) => Err(without(first, fault)),
+    }
+}
+
+// The same with a part more, of which the row is at least 0.
 #[cycle(with_abs)]
 fn with_one(
     alloc: Global,
     row: &Row,
-    k: i128,
-    of: &Row,
+    part: &Part,
     parts: &[Part],
 ) -> Result<Formula, RowFault>
-    requires { IsWithin k }
-    ensures { FormulaAnswer (comb_passes (pos 1) row.now k of.now || with_abs_passes (comb (pos 1) row.now k of.now) parts.now)
-        (with_abs (comb (pos 1) row.now k of.now) parts.now) result }
+    ensures { FormulaAnswer (part_passes row.now part.now parts.now) (with_part row.now part.now parts.now) result }
 {
-    let sum = row.combine(alloc, 1, of, k)?;
+    let sum = part.added_to(alloc, row)?;
     with_abs(alloc, &sum, parts)
 }
 

@@ -58,7 +58,6 @@ fn with_regions(alloc: Global, layout: &Layout, main: Written) -> Result<Written
 }
 
 // Adds the formulas of the counts of regions.
-#[tactic(auto, using(crate::proofs::WritingCode::regions_made))]
 fn push_regions(alloc: Global, layout: &Layout, parts: &mut Vec<Formula>) -> Result<(), NoMemory>
     requires sets { set_count (plain_layout layout.now) ≤ MOST_SETS }
     requires room { first_free (plain_layout layout.now) < 2 ^ 32 }
