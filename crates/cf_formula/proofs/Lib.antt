@@ -41,3 +41,4 @@ pub mod TurnLaws
 pub mod WritingCode
 pub mod WritingExamples
 pub mod WritingLaws
+pub mod WritingLimits

@@ -1,16 +1,16 @@
 -- The code that writes relations as formulas.
-use Rattle.std.proofs.Common.{◌≡◌, ℕ, suc, ℤ, pos, negsuc, neg_ℤ, ◌+◌, ◌<◌, ◌≤◌, List, [], ◌∷◌, ◌++◌, map, filter, drop, get_or, length, Bool, true, false, cond, not, ◌||◌, Option, Some, None, Result, Ok, Err, refl, sym, ◌∙◌, ap, arith, append_assoc, add-one, drop-cons, subst}
+use Rattle.std.proofs.Common.{◌≡◌, ℕ, suc, ℤ, pos, negsuc, neg_ℤ, ◌+◌, ◌<◌, ◌≤◌, List, [], ◌∷◌, ◌++◌, map, filter, drop, get_or, length, Bool, true, false, cond, not, ◌||◌, Option, Some, None, Result, Ok, refl, sym, ◌∙◌, ap, arith, append_assoc, add-one, drop-cons, subst}
 use Rattle.std.specs.Prelude.{int_lt}
 use Rattle.std.proofs.lemmas.List.{append-nil, get_or-map, length-map}
 use Rattle.std.proofs.Math.ListN.{drop_of_length-le}
 use Rattle.cf_tree.specs.declared.base.Order.{Order}
 use Rattle.cf_tree.specs.declared.base.Order.TheVariants.{Eq, Ne, Lt, Le, Gt, Ge}
-use Rattle.cf_tree.specs.RelTree.{TermTree, SetTree, RelTree, rel_true, rel_false, rel_compare, rel_same_set, rel_other_set, rel_subset, rel_divides, rel_and, rel_or, rel_not}
-use Rattle.cf_linear.specs.Cases.{Atom, atom_true, atom_false, atom_compare, atom_divides, atom_not_divides, atom_same, atom_other, atom_subset, atom_not_subset, Normal, normal_atom, normal_and, normal_or, negation_normal, Signed, atom_cases, disjuncts, case_count, write_atom, input_row}
+use Rattle.cf_tree.specs.RelTree.{TermTree, RelTree, rel_true, rel_false, rel_compare, rel_same_set, rel_other_set, rel_subset, rel_divides, rel_and, rel_or, rel_not}
+use Rattle.cf_linear.specs.Cases.{Atom, atom_true, atom_false, atom_compare, atom_divides, atom_not_divides, atom_same, atom_other, atom_subset, atom_not_subset, Normal, normal_atom, negation_normal, Signed, atom_cases, disjuncts, case_count, write_atom, input_row}
 use Rattle.cf_linear.specs.declared.refusal.RowFault.{RowFault}
 use Rattle.cf_linear.specs.declared.refusal.RowFault.TheVariants.{Past, NoMemory}
 use Rattle.cf_linear.specs.Layout.{Layout, first_free, masks, set_count, region_column}
-use Rattle.cf_linear.specs.Rows.{Row, put, comb, comb_passes}
+use Rattle.cf_linear.specs.Rows.{Row, put, comb}
 use Rattle.cf_linear.specs.Written.{plus}
 use Rattle.cf_formula.specs.Members.{conj, disj}
 use Rattle.cf_linear.specs.Parts.{IsRowFault}
@@ -34,7 +34,8 @@ pub mapped_step : {A B : Type 0} (f : A → B) (out new whole : List B) (x : A) 
 mapped_step f out new whole x rest y e n inv =
     ap (λ s. s ++ map f rest) n ∙ append_assoc out (y ∷ []) (map f rest) ∙ ap (λ z. out ++ (z ∷ map f rest)) e ∙ inv
 
-pub kept_step : {A : Type 0} (p : A → Bool) (out new whole : List A) (x : A) (rest : List A) (b : Bool) → b ≡ p x → new ≡ out ++ cond b (x ∷ []) [] →
+pub kept_step : {A : Type 0} (p : A → Bool) (out new whole : List A) (x : A) (rest : List A) (b : Bool) → b ≡ p x →
+    new ≡ out ++ cond b (x ∷ []) [] →
     out ++ filter p (x ∷ rest) ≡ whole → new ++ filter p rest ≡ whole
 kept_step p out new whole x rest true e n inv = ap (λ s. s ++ filter p rest) n ∙ append_assoc out (x ∷ []) (filter p rest) ∙ (rw (← e) at inv)
 kept_step p out new whole x rest false e n inv = ap (λ s. s ++ filter p rest) (n ∙ append-nil out) ∙ (rw (← e) at inv)
@@ -66,10 +67,11 @@ pub ne_made : (f : Flat) (x y z : Formula) →
     (x ≡ with_abs (plus (comb (negsuc 0) f.row (pos 0) []) (negsuc 0)) (turned_parts f.parts)) × (at_most_passes (negsuc 0) f ≡ false) →
     (y ≡ with_abs (plus f.row (negsuc 0)) (in_order f.parts)) × (at_least_passes (negsuc 0) f ≡ false) → z ≡ joined_formula false x y →
     (z ≡ compared Ne f) × (compared_passes Ne f ≡ false)
-ne_made f x y z p q j =
-    (j ∙ ap (λ a. disj (a ∷ y ∷ [])) p.0 ∙
-    ap (λ a. disj (with_abs (plus (comb (negsuc 0) f.row (pos 0) []) (negsuc 0)) (turned_parts f.parts) ∷ a ∷ [])) q.0,
-    rw (p.1, q.1) refl)
+ne_made f x y z p q j = (
+  j ∙ ap (λ a. disj (a ∷ y ∷ [])) p.0 ∙
+      ap (λ a. disj (with_abs (plus (comb (negsuc 0) f.row (pos 0) []) (negsuc 0)) (turned_parts f.parts) ∷ a ∷ [])) q.0,
+  rw (p.1, q.1) refl,
+)
 
 -- ---- atoms
 pub normal_is : (d : Bool) (r : RelTree) → IsAtom r → negation_normal d r ≡ normal_atom (atom_in (negation_normal d r))
@@ -173,7 +175,8 @@ one_way l n a i before now next e h g f m w =
       more = omega (arith, w.more);
       formulas = ap (λ x. all_ways l x (drop (i + 1) (atom_cases a))) is ∙ sym (ap (all_ways l now) d) ∙ w.formulas;
       fits = ap (λ x. ways_pass l (drop (i + 1) (atom_cases a)) x.next) is ∙
-          sym (ap (λ ss. ways_pass l ss now.next) d ∙ ap (λ b. b || ways_pass l (drop (i + 1) (atom_cases a)) (write_atom l s now.next).next) fit) ∙ w.fits;
+          sym (ap (λ ss. ways_pass l ss now.next) d ∙
+          ap (λ b. b || ways_pass l (drop (i + 1) (atom_cases a)) (write_atom l s now.next).next) fit) ∙ w.fits;
     }
 
 pub way_fails : (l : Layout) (n : Normal) (a : Atom) (i : ℕ) (before now : Ways) (e : RowFault) → n ≡ normal_atom a → i < case_count n →
@@ -189,7 +192,8 @@ way_fails l n a i before now Past e h f w =
     ap (λ b. b || ways_pass l (drop (i + 1) (atom_cases a)) (write_atom l s now.next).next) fit
 
 -- none is left
-pub ways_end : (l : Layout) (n : Normal) (a : Atom) (i : ℕ) (before now : Ways) → n ≡ normal_atom a → case_count n ≤ i → WaysLeft l a i before now →
+pub ways_end : (l : Layout) (n : Normal) (a : Atom) (i : ℕ) (before now : Ways) → n ≡ normal_atom a → case_count n ≤ i →
+    WaysLeft l a i before now →
     (now ≡ all_ways l before (atom_cases a)) × (ways_pass l (atom_cases a) before.next ≡ false)
 ways_end l n a i before now e h w =
     let k : length (atom_cases a) ≤ i = omega (arith, ways_long a, subst (λ p. case_count p ≤ i) e h) in
@@ -200,7 +204,8 @@ ways_end l n a i before now e h w =
 written_by : (l : Layout) (a : Atom) (next : ℕ) → atom_written l a next ≡ written_or next (flat_formula l a) (ways_written l a next)
 written_by l (atom_compare o t u) next = by_flat (flat_difference l t u)
   where
-    by_flat : (x : Option Flat) → flat_or_ways l (atom_compare o t u) o next x ≡ written_or next (formula_behind o x) (ways_written l (atom_compare o t u) next)
+    by_flat : (x : Option Flat) → flat_or_ways l (atom_compare o t u) o next x ≡
+        written_or next (formula_behind o x) (ways_written l (atom_compare o t u) next)
     by_flat None = refl
     by_flat (Some f) = refl
 written_by l atom_true next = refl
@@ -212,11 +217,12 @@ written_by l (atom_other a b) next = refl
 written_by l (atom_subset a b) next = refl
 written_by l (atom_not_subset a b) next = refl
 
-pub flat_made : (l : Layout) (n : Normal) (a : Atom) (next : ℕ) (f : Formula) → n ≡ normal_atom a → flat_formula l a ≡ Some f → flat_passes l a ≡ false →
-    (record { formula = f; next = next } ≡ normal_written l n next) × (normal_passes l n next ≡ false)
+pub flat_made : (l : Layout) (n : Normal) (a : Atom) (next : ℕ) (f : Formula) → n ≡ normal_atom a → flat_formula l a ≡ Some f →
+    flat_passes l a ≡ false → (record { formula = f; next = next } ≡ normal_written l n next) × (normal_passes l n next ≡ false)
 flat_made l n a next f e g h = rw e (sym (written_by l a next ∙ ap (λ x. written_or next x (ways_written l a next)) g), rw (g, h) refl)
 
-pub ways_made : (l : Layout) (n : Normal) (a : Atom) (next : ℕ) (r : Result DeclaredWritten RowFault) → n ≡ normal_atom a → flat_formula l a ≡ None →
+pub ways_made : (l : Layout) (n : Normal) (a : Atom) (next : ℕ) (r : Result DeclaredWritten RowFault) → n ≡ normal_atom a →
+    flat_formula l a ≡ None →
     flat_passes l a ≡ false → WrittenAnswer (ways_pass l (atom_cases a) next) (ways_written l a next) r →
     WrittenAnswer (normal_passes l n next) (normal_written l n next) r
 ways_made l n a next r e g h k = rw (e, written_by l a next, g, h) k
@@ -300,8 +306,8 @@ pub two_made : (l : Layout) (b : Bool) (whole n m : Normal) (next : ℕ) (w u : 
 two_made l b whole n m next w u r e f g h k a =
     rw (e, two_pass l b n m next, two_written l b n m next, g, ← f, k, ← h) a
 
-pub first_fails : (l : Layout) (b : Bool) (whole n m : Normal) (next : ℕ) (e : RowFault) → whole ≡ joined b n m → IsRowFault (normal_passes l n next) e →
-    IsRowFault (normal_passes l whole next) e
+pub first_fails : (l : Layout) (b : Bool) (whole n m : Normal) (next : ℕ) (e : RowFault) → whole ≡ joined b n m →
+    IsRowFault (normal_passes l n next) e → IsRowFault (normal_passes l whole next) e
 first_fails l b whole n m next NoMemory j h = tt
 first_fails l b whole n m next Past j h = rw (j, two_pass l b n m next, h) refl
 

@@ -12,7 +12,7 @@ ghost use Rattle.cf_formula.specs.Answers.{SubstAnswer, FormulaAnswer};
 ghost use Rattle.cf_formula.specs.FormulaView.{formula_tree};
 ghost use Rattle.cf_formula.specs.Writing.{plain_row, is_plain, with_plain, flattened, with_abs, in_order, turned_parts, compared, flat_difference};
 ghost use Rattle.cf_formula.specs.WritingAnswers.{flat_of, plain_passes, with_plain_passes, flattened_passes, with_abs_passes, part_passes, with_part, raised_passes, at_least_passes, at_most_passes};
-ghost use Rattle.cf_formula.specs.WritingAnswers.{compared_passes, difference_passes, flat_formula, flat_passes, formula_behind, passes_behind, joined_formula, FlatAnswer, DifferenceAnswer, FlatFormulaAnswer, ScaledAnswer, NumberAnswer};
+ghost use Rattle.cf_formula.specs.WritingAnswers.{compared_passes, difference_passes, flat_formula, flat_passes, joined_formula, FlatAnswer, DifferenceAnswer, FlatFormulaAnswer, ScaledAnswer, NumberAnswer};
 ghost use Rattle.cf_linear.specs.Cases.{atom_compare};
 
 use crate::atoms::ge;
@@ -237,12 +237,7 @@ fn add_flat(
 }
 
 // k times the value of a form that is a number, unless it has an `abs`.
-fn scaled(
-    alloc: Global,
-    layout: &Layout,
-    term: &Term,
-    k: &i128,
-) -> Result<Option<i128>, RowFault>
+fn scaled(alloc: Global, layout: &Layout, term: &Term, k: &i128) -> Result<Option<i128>, RowFault>
     requires placed { IsPlaced (plain_layout layout.now) (term_tree term.now) }
     requires linear { IsLinearTerm (term_tree term.now) }
     requires factor { IsWithin k.now }
@@ -310,7 +305,10 @@ fn add_abs(
     requires sets { set_count (plain_layout layout.now) ≤ MOST_SETS }
     requires room { first_free (plain_layout layout.now) < 2 ^ 32 }
     ensures { FlatAnswer (is_plain (term_tree of.now) && plain_passes (plain_layout layout.now) (term_tree of.now))
-        (if is_plain (term_tree of.now) then Some (record { row = flat.old.row; parts = flat.old.parts.items ++ ((k.now, plain_row (plain_layout layout.now) (term_tree of.now)) ∷ []) }) else None)
+        (if is_plain (term_tree of.now) then Some (record {
+          row = flat.old.row;
+          parts = flat.old.parts.items ++ ((k.now, plain_row (plain_layout layout.now) (term_tree of.now)) ∷ []);
+        }) else None)
         flat.new result }
 {
     if !is_plain(of)? {
@@ -428,7 +426,8 @@ fn at_least(alloc: Global, flat: &Flat, n: i128) -> Result<Formula, RowFault>
 // What the flat form lacks to 0, and `n`, are at least 0.
 fn at_most(alloc: Global, flat: &Flat, n: i128) -> Result<Formula, RowFault>
     requires { IsWithin n }
-    ensures { FormulaAnswer (at_most_passes n (flat_of flat.now)) (with_abs (plus (comb (negsuc 0) flat.now.row (pos 0) []) n) (turned_parts flat.now.parts.items)) result }
+    ensures { FormulaAnswer (at_most_passes n (flat_of flat.now))
+        (with_abs (plus (comb (negsuc 0) flat.now.row (pos 0) []) n) (turned_parts flat.now.parts.items)) result }
 {
     let row = flat.row.negated(alloc)?;
     let parts = turned_parts(alloc, &flat.parts)?;
@@ -480,12 +479,7 @@ fn with_both(
 
 // The same with a part more, of which the row is at least 0.
 #[cycle(with_abs)]
-fn with_one(
-    alloc: Global,
-    row: &Row,
-    part: &Part,
-    parts: &[Part],
-) -> Result<Formula, RowFault>
+fn with_one(alloc: Global, row: &Row, part: &Part, parts: &[Part]) -> Result<Formula, RowFault>
     ensures { FormulaAnswer (part_passes row.now part.now parts.now) (with_part row.now part.now parts.now) result }
 {
     let sum = part.added_to(alloc, row)?;
@@ -493,7 +487,12 @@ fn with_one(
 }
 
 // Both formulas, where `both`, or either.
-pub(crate) fn joined(alloc: Global, both: bool, first: Formula, second: Formula) -> Result<Formula, NoMemory>
+pub(crate) fn joined(
+    alloc: Global,
+    both: bool,
+    first: Formula,
+    second: Formula,
+) -> Result<Formula, NoMemory>
     ensures { IfOk result (λ f. formula_tree f ≡ joined_formula both (formula_tree first) (formula_tree second)) }
 {
     let mut parts = Vec::new(alloc);
@@ -565,12 +564,7 @@ fn push_added(alloc: Global, parts: &[Part], out: &mut Vec<Part>) -> Result<(), 
 }
 
 // Adds the part, where `wanted`.
-fn push_if(
-    alloc: Global,
-    part: &Part,
-    wanted: bool,
-    out: &mut Vec<Part>,
-) -> Result<(), NoMemory>
+fn push_if(alloc: Global, part: &Part, wanted: bool, out: &mut Vec<Part>) -> Result<(), NoMemory>
     ensures { OnOk result (out.new.items ≡ out.old.items ++ (if wanted then part.now ∷ [] else [])) }
 {
     if wanted {

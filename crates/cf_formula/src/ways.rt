@@ -18,7 +18,10 @@ use crate::atoms::{eq, ge};
 use crate::flat::{has_room, quotient_count, total};
 use crate::formula::Formula;
 use crate::members::{conj, disj};
-use cf_cases::{Regions, SystemBuilder, abs_count, add_apart, add_compare, add_constant, add_divides, order_as, order_ways};
+use cf_cases::{
+    Regions, SystemBuilder, abs_count, add_apart, add_compare, add_constant, add_divides, order_as,
+    order_ways,
+};
 use cf_linear::{Layout, Row, RowFault};
 use cf_tree::{NoMemory, Rel};
 use std::alloc::Global;
@@ -97,8 +100,10 @@ fn add_way(
     requires small { index < 2 ^ 64 }
     requires sets { set_count (plain_layout layout.now) ≤ MOST_SETS }
     requires above { first_free (plain_layout layout.now) ≤ ways.old.next }
-    ensures gives { WaysAnswer (with_case (plain_layout layout.now) (empty_rows ways.old.next) (case_by (negation_normal holds (rel_tree rel.now)) index)).passes
-        (with_rows_way (ways_of ways.old) (with_case (plain_layout layout.now) (empty_rows ways.old.next) (case_by (negation_normal holds (rel_tree rel.now)) index)))
+    ensures gives { WaysAnswer
+        (with_case (plain_layout layout.now) (empty_rows ways.old.next) (case_by (negation_normal holds (rel_tree rel.now)) index)).passes
+        (with_rows_way (ways_of ways.old)
+        (with_case (plain_layout layout.now) (empty_rows ways.old.next) (case_by (negation_normal holds (rel_tree rel.now)) index)))
         ways.new result }
     ensures more { IfOk result (λ _. ways.old.next ≤ ways.new.next) }
 {
@@ -219,9 +224,11 @@ fn rel_quotients(rel: &Rel) -> Result<u32, NoMemory>
     match rel {
         Rel::True | Rel::False => Ok(0),
         Rel::SameSet(_, _) | Rel::OtherSet(_, _) | Rel::Subset(_, _) => Ok(0),
-        Rel::Compare { order: _, left, right } => {
-            total(quotient_count(left)?, quotient_count(right)?)
-        }
+        Rel::Compare {
+            order: _,
+            left,
+            right,
+        } => { total(quotient_count(left)?, quotient_count(right)?) }
         Rel::Divides { k: _, of } => total(quotient_count(of)?, 1),
         Rel::And(a, b) | Rel::Or(a, b) => total(rel_quotients(a)?, rel_quotients(b)?),
         Rel::Not(a) => rel_quotients(a),
@@ -229,11 +236,7 @@ fn rel_quotients(rel: &Rel) -> Result<u32, NoMemory>
 }
 
 // All rows at once.
-fn rows_formula(
-    alloc: Global,
-    equations: &[Row],
-    inequalities: &[Row],
-) -> Result<Formula, NoMemory>
+fn rows_formula(alloc: Global, equations: &[Row], inequalities: &[Row]) -> Result<Formula, NoMemory>
     ensures { IfOk result (λ f. formula_tree f ≡ conj (map eq equations.now ++ map ge inequalities.now)) }
 {
     let mut parts = Vec::new(alloc);

@@ -1,5 +1,5 @@
 //! A relation as one formula over rows.
-ghost use Rattle.std.specs.Prelude.{◌≡◌, ◌+◌, ◌-◌, ◌<◌, ◌≤◌, ◌^◌, ◌++◌, ◌∷◌, [], false, IfOk, OnOk};
+ghost use Rattle.std.specs.Prelude.{◌≡◌, ◌+◌, ◌-◌, ◌<◌, ◌≤◌, ◌^◌, ◌++◌, false, IfOk, OnOk};
 ghost use Rattle.std.specs.List.{range_with_len};
 ghost use Rattle.cf_tree.specs.RelView.{rel_tree};
 ghost use Rattle.cf_linear.specs.declared.refusal.TheConstants.{MOST_SETS};
@@ -162,7 +162,8 @@ fn flat_of(
     requires atom { IsAtom (rel_tree rel.now) }
     requires sets { set_count (plain_layout layout.now) ≤ MOST_SETS }
     requires room { first_free (plain_layout layout.now) < 2 ^ 32 }
-    ensures { FlatFormulaAnswer (flat_in_passes (plain_layout layout.now) holds (rel_tree rel.now)) (flat_in (plain_layout layout.now) holds (rel_tree rel.now)) result }
+    ensures { FlatFormulaAnswer (flat_in_passes (plain_layout layout.now) holds (rel_tree rel.now))
+        (flat_in (plain_layout layout.now) holds (rel_tree rel.now)) result }
 {
     match rel {
         Rel::Compare { order, left, right } => {
