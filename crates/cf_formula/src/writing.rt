@@ -36,7 +36,8 @@ pub fn written(alloc: Global, layout: &Layout, rel: &Rel) -> Result<Written, Row
     requires placed { IsPlacedRel (plain_layout layout.now) (rel_tree rel.now) }
     requires sets { set_count (plain_layout layout.now) ≤ MOST_SETS }
     requires room { first_free (plain_layout layout.now) < 2 ^ 32 }
-    ensures { WrittenAnswer (relation_passes (plain_layout layout.now) (rel_tree rel.now)) (written (plain_layout layout.now) (rel_tree rel.now)) result }
+    ensures gives { WrittenAnswer (relation_passes (plain_layout layout.now) (rel_tree rel.now)) (written (plain_layout layout.now) (rel_tree rel.now)) result }
+    ensures above { IfOk result (λ w. first_free (plain_layout layout.now) ≤ w.next) }
 {
     let first = first_free(layout);
     let main = part_written(alloc, layout, rel, true, first)?;
@@ -47,7 +48,8 @@ pub fn written(alloc: Global, layout: &Layout, rel: &Rel) -> Result<Written, Row
 fn with_regions(alloc: Global, layout: &Layout, main: Written) -> Result<Written, NoMemory>
     requires sets { set_count (plain_layout layout.now) ≤ MOST_SETS }
     requires room { first_free (plain_layout layout.now) < 2 ^ 32 }
-    ensures { IfOk result (λ w. written_of w ≡ with_region_formulas (plain_layout layout.now) (written_of main)) }
+    ensures gives { IfOk result (λ w. written_of w ≡ with_region_formulas (plain_layout layout.now) (written_of main)) }
+    ensures next { IfOk result (λ w. w.next ≡ main.next) }
 {
     let next = main.next;
     let mut parts = Vec::new(alloc);
