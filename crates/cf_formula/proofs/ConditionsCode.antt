@@ -1,13 +1,16 @@
 -- Conditions that are written anew, list by list.
-use Rattle.std.proofs.Common.{◌≡◌, List, [], ◌∷◌, ◌++◌, map, Bool, true, false, ◌||◌, refl, sym, ◌∙◌, ap}
+use Rattle.std.proofs.Common.{◌≡◌, ◌+◌, arith, reverse, List, [], ◌∷◌, ◌++◌, map, Bool, false, refl, sym, ◌∙◌, ap}
 use Rattle.std.specs.List.{list_any}
 use Rattle.cf_linear.specs.Rows.{Row}
-use Rattle.cf_formula.specs.declared.conditions.Conditions.{Conditions as DeclaredConditions}
 use Rattle.cf_formula.specs.Atoms.{ge, eq}
-use Rattle.cf_formula.specs.ConditionsView.{conditions_of}
-use Rattle.cf_formula.specs.Formulas.{Formula}
+use Rattle.cf_formula.specs.declared.formula.Formula.{Formula as DeclaredFormula}
+use Rattle.cf_formula.specs.ConditionsView.{IsAdded}
+use Rattle.cf_formula.specs.FormulaView.{formula_tree, formula_trees, size, size_of_all}
+use Rattle.cf_formula.specs.Formulas.{Formula, both}
 use Rattle.cf_formula.specs.Rewriting.{with_rows, some_atom}
 use Rattle.cf_formula.specs.States.{Conditions, add, add_all, changed, some_row, nothing_but}
+use Rattle.cf_formula.proofs.FormulaLists.{last_next}
+use Rattle.cf_formula.proofs.MemberCode.{some_size}
 
 add_all-append : (fs gs : List Formula) (c : Conditions) → add_all (fs ++ gs) c ≡ add_all gs (add_all fs c)
 add_all-append [] gs c = refl
@@ -38,3 +41,23 @@ all_lists_put change p c n a b d es is ps k e f g x y z =
           (z.0 ∙ ap (λ s. add_all (map (with_rows change) s) b) g),
       rw (u, v, w) refl,
     )
+
+-- ---- part after part of what is added
+pub part_added : (f : Formula) (left : List DeclaredFormula) (c d : Conditions) → d ≡ add f c → IsAdded f left left c d
+part_added f left c d e = let p = some_size f in record { same = ap (add_all (formula_trees (reverse left))) e; fewer = omega arith }
+
+pub parts_left : (x y : DeclaredFormula) (before mid left : List DeclaredFormula) (c : Conditions) → mid ≡ before ++ (y ∷ []) → left ≡ mid ++ (x ∷ []) →
+    IsAdded (both (formula_tree x) (formula_tree y)) before left c c
+parts_left x y before mid left c m l =
+    let ts = formula_trees (reverse before) in
+    let k : formula_trees (reverse left) ≡ formula_tree x ∷ formula_tree y ∷ ts =
+    last_next left mid x l ∙ ap (λ gs. formula_tree x ∷ gs) (last_next mid before y m) in
+    let n : size_of_all (formula_trees (reverse left)) ≡ size (formula_tree x) + (size (formula_tree y) + size_of_all ts) = ap size_of_all k in
+    record { same = ap (λ gs. add_all gs c) k; fewer = omega arith }
+
+pub parts_start : (f : Formula) (before left : List DeclaredFormula) (c d : Conditions) → before ≡ [] → IsAdded f before left c d →
+    add_all (formula_trees (reverse left)) d ≡ add f c
+parts_start f before left c d e n = n.same ∙ ap (λ fs. add_all (formula_trees (reverse fs)) (add f c)) e
+
+pub parts_done : (left : List DeclaredFormula) (c target : Conditions) → left ≡ [] → add_all (formula_trees (reverse left)) c ≡ target → c ≡ target
+parts_done left c target e inv = ap (λ fs. add_all (formula_trees (reverse fs)) c) (sym e) ∙ inv

@@ -1,13 +1,12 @@
 -- The loops over lists of formulas.
 use Rattle.std.proofs.Common.{◌≡◌, ℕ, ◌<◌, ◌≤◌, ◌+◌, List, [], ◌∷◌, ◌++◌, map, Bool, true, false, cond, not, ◌||◌, refl, sym, ◌∙◌, ap, arith, zero, suc, append_assoc, get_or, length, take, drop, drop-cons, add-one, reverse}
 use Rattle.std.specs.Prelude.{filter}
-use Rattle.std.specs.List.{list_any, flat_map}
+use Rattle.std.specs.List.{list_any}
 use Rattle.std.proofs.Math.ListN.{drop_of_length-le}
-use Rattle.std.proofs.lemmas.Bool.{cond_both}
 use Rattle.std.proofs.lemmas.List.{append-nil, reverse-append, reverse-reverse}
 use Rattle.cf_linear.proofs.BoolLemmas.{on_bool}
 use Rattle.cf_formula.specs.declared.formula.Formula.{Formula as DeclaredFormula}
-use Rattle.cf_formula.specs.Formulas.{Formula, always, never, both, either}
+use Rattle.cf_formula.specs.Formulas.{Formula, both, either}
 use Rattle.cf_formula.specs.FormulaView.{formula_tree, formula_trees, IsMoved}
 use Rattle.cf_formula.specs.Members.{same_formula, is_among, distinct_formulas, unmarked, all_of, any_of}
 
@@ -32,7 +31,7 @@ pub among_end : (fs : List DeclaredFormula) (f : Formula) (i : ℕ) → length f
 among_end fs f i h = rw (drop_of_length-le fs h) refl
 
 -- ---- the last one is the next of those that are left
-trees-append : (fs gs : List DeclaredFormula) → formula_trees (fs ++ gs) ≡ formula_trees fs ++ formula_trees gs
+pub trees-append : (fs gs : List DeclaredFormula) → formula_trees (fs ++ gs) ≡ formula_trees fs ++ formula_trees gs
 trees-append [] gs = refl
 trees-append (f ∷ fs) gs = ap (λ ts. formula_tree f ∷ ts) (trees-append fs gs)
 
@@ -105,12 +104,12 @@ distinct_done left kept target e inv =
     sym (distinct_end (formula_trees kept)) ∙ ap (λ s. distinct_with (formula_trees kept) (formula_trees (reverse s))) (sym e) ∙ inv
 
 -- ---- members joined from the last one on
-all_last : (fs : List Formula) (f g : Formula) → all_of (fs ++ (both f g ∷ [])) ≡ all_of (fs ++ (f ∷ g ∷ []))
+pub all_last : (fs : List Formula) (f g : Formula) → all_of (fs ++ (both f g ∷ [])) ≡ all_of (fs ++ (f ∷ g ∷ []))
 all_last [] f g = refl
 all_last (h ∷ []) f g = refl
 all_last (h ∷ k ∷ fs) f g = ap (both h) (all_last (k ∷ fs) f g)
 
-any_last : (fs : List Formula) (f g : Formula) → any_of (fs ++ (either f g ∷ [])) ≡ any_of (fs ++ (f ∷ g ∷ []))
+pub any_last : (fs : List Formula) (f g : Formula) → any_of (fs ++ (either f g ∷ [])) ≡ any_of (fs ++ (f ∷ g ∷ []))
 any_last [] f g = refl
 any_last (h ∷ []) f g = refl
 any_last (h ∷ k ∷ fs) f g = ap (either h) (any_last (k ∷ fs) f g)

@@ -1,14 +1,13 @@
 -- A row behind its constant.
-use Rattle.std.proofs.Common.{◌≡◌, ◌≢◌, ℕ, zero, suc, ◌+◌, ◌-◌, ◌<◌, ◌≤◌, ◌==◌, ℤ, pos, negsuc, List, [], ◌∷◌, Bool, true, false, ◌||◌, refl, sym, ◌∙◌, ap, arith, get_or, length, drop, drop-cons, add-one}
-use Rattle.std.specs.Prelude.{◌≤ℤ◌, ◌<ℤ◌, int_lt, nat_le, unsigned_abs, ◌-ℤ◌}
-use Rattle.std.specs.Int.{int_div_euclid, int_rem_euclid}
+use Rattle.std.proofs.Common.{◌≡◌, ◌≢◌, ℕ, zero, suc, ◌+◌, ◌-◌, ◌<◌, ◌≤◌, ◌==◌, ℤ, pos, [], ◌∷◌, true, false, refl, sym, ◌∙◌, ap, arith, get_or, length, drop, drop-cons, add-one}
+use Rattle.std.specs.Prelude.{◌≤ℤ◌, ◌<ℤ◌, int_lt, unsigned_abs, ◌-ℤ◌}
+use Rattle.std.specs.Int.{int_rem_euclid}
 use Rattle.std.proofs.lemmas.Int.{ints}
-use Rattle.std.proofs.lemmas.Bool.{eqb-true, eqb-false, eq-eqb, ne_eqb}
+use Rattle.std.proofs.lemmas.Bool.{eqb-true, eqb-false, eq-eqb}
 use Rattle.std.proofs.Math.ListN.{drop_of_length-le}
 use Rattle.cf_num.specs.Divisors.{gcd_of}
-use Rattle.cf_linear.specs.Rows.{Row, Rises, IsRow, entry, is_zero, comb, same_row, without}
-use Rattle.cf_linear.specs.Steps.{common, divided, divides_it, one_at}
-use Rattle.cf_linear.specs.RowParts.{divided_by}
+use Rattle.cf_linear.specs.Rows.{Row, IsRow, entry, is_zero, same_row}
+use Rattle.cf_linear.specs.Steps.{common}
 use Rattle.cf_linear.proofs.BoolLemmas.{on_bool}
 use Rattle.cf_linear.proofs.CombLemmas.{without-low}
 use Rattle.cf_linear.proofs.RowTests.{different_length}

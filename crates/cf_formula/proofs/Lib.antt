@@ -2,6 +2,7 @@ pub mod AtomLaws
 pub mod BranchLaws
 pub mod ConditionsCode
 pub mod ConditionsExamples
+pub mod CopyCode
 pub mod FactCode
 pub mod FactLaws
 pub mod FirstLaws

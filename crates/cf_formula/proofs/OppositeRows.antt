@@ -1,12 +1,11 @@
 -- Rows with opposite keys.
-use Rattle.std.proofs.Common.{◌≡◌, ℕ, zero, suc, ◌+◌, ◌<◌, ◌≤◌, ℤ, pos, negsuc, neg_ℤ, ◌+ℤ◌, ◌*ℤ◌, List, [], ◌∷◌, Bool, true, false, not, ◌&&◌, ◌||◌, refl, sym, ◌∙◌, ap, arith, get_or, length, drop, drop-cons, add-one, ◌↔◌}
+use Rattle.std.proofs.Common.{◌≡◌, ℕ, ◌+◌, ◌<◌, ◌≤◌, ℤ, pos, negsuc, neg_ℤ, ◌+ℤ◌, List, [], true, false, not, ◌||◌, refl, sym, ◌∙◌, ap, arith, get_or, length, drop}
 use Rattle.std.specs.Prelude.{◌≤ℤ◌, ◌<ℤ◌, int_lt}
 use Rattle.std.specs.List.{list_any}
 use Rattle.std.proofs.lemmas.Int.{ints}
 use Rattle.std.proofs.Math.ListN.{drop_of_length-le}
 use Rattle.cf_linear.specs.Arm.{negated}
-use Rattle.cf_linear.specs.Rows.{Row, Rises, IsRow, entry, comb, same_row, without}
-use Rattle.cf_linear.proofs.BoolLemmas.{on_bool}
+use Rattle.cf_linear.specs.Rows.{Row, Rises, IsRow, entry, same_row}
 use Rattle.cf_linear.proofs.Canonical.{row_ext}
 use Rattle.cf_linear.proofs.CombLemmas.{Rises-comb, Rises-without}
 use Rattle.cf_linear.proofs.RowLemmas.{entry-comb}

@@ -1,5 +1,5 @@
 -- What is made of two parts, and faults of one of them.
-use Rattle.std.proofs.Common.{◌≡◌, [], ◌∷◌, Bool, true, false, ◌||◌, Result, Ok, Err, refl, sym, subst}
+use Rattle.std.proofs.Common.{◌≡◌, [], ◌∷◌, Bool, true, false, ◌||◌, Result, refl, sym, subst}
 use Rattle.cf_linear.specs.Parts.{IsRowFault}
 use Rattle.cf_linear.specs.Rows.{Row}
 use Rattle.cf_linear.specs.declared.refusal.RowFault.{RowFault}

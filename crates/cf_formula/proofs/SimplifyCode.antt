@@ -1,14 +1,12 @@
 -- Rounds, one after the other.
-use Rattle.std.proofs.Common.{◌≡◌, ℕ, zero, suc, ◌+◌, ◌-◌, ◌<◌, ◌≤◌, ◌≢◌, List, [], ◌∷◌, ◌++◌, map, Bool, true, false, ◌&&◌, ◌||◌, refl, sym, ◌∙◌, ap, arith, append_assoc, add-one, get_or, length, drop, drop-cons, reverse}
+use Rattle.std.proofs.Common.{◌≡◌, ℕ, zero, suc, ◌+◌, ◌-◌, ◌<◌, ◌≤◌, ◌≢◌, List, [], ◌∷◌, ◌++◌, true, false, ◌&&◌, ◌||◌, refl, sym, ◌∙◌, ap, arith, append_assoc, add-one, get_or, length, drop, drop-cons, reverse}
 use Rattle.std.proofs.Math.ListN.{drop_of_length-le}
-use Rattle.cf_linear.specs.Arm.{negated}
 use Rattle.cf_linear.specs.Rows.{Row}
 use Rattle.cf_linear.proofs.BoolLemmas.{on_bool}
 use Rattle.cf_formula.specs.declared.formula.Formula.{Formula as DeclaredFormula}
-use Rattle.cf_formula.specs.Formulas.{Formula}
 use Rattle.cf_formula.specs.FormulaView.{formula_tree, formula_trees}
 use Rattle.cf_formula.specs.Members.{same_formula}
-use Rattle.cf_formula.specs.Simplifying.{sure, add_while, same_formulas, settled_once, settled_all, is_refuted, round, is_last, atoms_of_all, simplified, simplified_within}
+use Rattle.cf_formula.specs.Simplifying.{add_while, same_formulas, settled_once, settled_all, is_refuted, round, is_last, atoms_of_all, simplified, simplified_within}
 use Rattle.cf_formula.specs.States.{Conditions, add, killed}
 use Rattle.cf_formula.proofs.FormulaLists.{last_next, all_left}
 

@@ -24,4 +24,4 @@ put_fault rs i n r row put e h m g p f =
     let q : IsRowFault (subst_passes r.column r.row (subst_rows (pairs_of (drop n rs)) row)) e =
     subst (λ s. IsRowFault (subst_passes r.column r.row s) e) p f in
     earlier_fault rs i row e (subst (λ s. IsRowFault (rows_pass (pairs_of s) row) e) (sym k)
-      (second_fault (rows_pass (pairs_of (drop n rs)) row) (subst_passes r.column r.row (subst_rows (pairs_of (drop n rs)) row)) e q))
+    (second_fault (rows_pass (pairs_of (drop n rs)) row) (subst_passes r.column r.row (subst_rows (pairs_of (drop n rs)) row)) e q))

@@ -1,10 +1,10 @@
 -- A row divided with its constant.
-use Rattle.std.proofs.Common.{◌≡◌, ℕ, zero, suc, ◌<◌, ℤ, pos, negsuc, ◌+ℤ◌, ◌*ℤ◌, [], ◌∷◌, true, false, refl, sym, ◌∙◌, ap, arith}
-use Rattle.std.specs.Prelude.{◌≤ℤ◌, ◌<ℤ◌, nat_le, unsigned_abs}
+use Rattle.std.proofs.Common.{◌≡◌, ℕ, zero, suc, ◌<◌, ℤ, pos, ◌+ℤ◌, ◌*ℤ◌, [], ◌∷◌, refl, sym, ◌∙◌, ap, arith}
+use Rattle.std.specs.Prelude.{◌≤ℤ◌, ◌<ℤ◌}
 use Rattle.std.specs.Int.{int_div_euclid}
 use Rattle.std.proofs.lemmas.Int.{ints}
 use Rattle.cf_num.proofs.DivisionLemmas.{int_div_euclid_once}
-use Rattle.cf_linear.specs.Rows.{Row, Rises, IsRow, entry, put, add_at, comb, without}
+use Rattle.cf_linear.specs.Rows.{Row, Rises, IsRow, entry, put, add_at, comb}
 use Rattle.cf_linear.specs.Steps.{common, divided, one_at}
 use Rattle.cf_linear.specs.RowParts.{divided_by}
 use Rattle.cf_linear.proofs.Canonical.{Rises-lower, entry-low}

@@ -3,7 +3,7 @@ ghost use Rattle.std.specs.Prelude.{◌≡◌, map, false, OnOk, if◌then◌els
 ghost use Rattle.std.specs.List.{list_any};
 ghost use Rattle.cf_linear.specs.Rows.{same_row};
 ghost use Rattle.cf_formula.specs.Atoms.{ge, eq};
-ghost use Rattle.cf_formula.specs.ConditionsView.{conditions_of, ConditionsAnswer, AddAnswer};
+ghost use Rattle.cf_formula.specs.ConditionsView.{conditions_of, ConditionsAnswer, AddAnswer, IsAdded};
 ghost use Rattle.cf_formula.specs.FormulaView.{formula_tree, formula_trees};
 ghost use Rattle.cf_formula.specs.Rewriting.{with_rows, some_atom};
 ghost use Rattle.cf_formula.specs.States.{no_conditions, with_row, add, changed, some_row, nothing_but};
@@ -42,6 +42,19 @@ impl Conditions {
     pub fn add(&mut self, formula: Formula) -> Result<(), NoMemory>
         ensures { OnOk result (conditions_of self.new ≡ add (formula_tree formula) (conditions_of self.old)) }
     {
+        let mut left = Vec::new(*self.pending.allocator());
+        self.add_part(formula, &mut left)?;
+        while let Some(part) = left.pop() {
+            self.add_part(part, &mut left)?;
+        }
+        Ok(())
+    }
+
+    // Adds the formula, or the parts of an `and` to those that are left, where the last one is the next.
+    #[tactic(auto, using(crate::proofs::ConditionsCode::part_added, crate::proofs::ConditionsCode::parts_left))]
+    fn add_part(&mut self, formula: Formula, left: &mut Vec<Formula>) -> Result<(), NoMemory>
+        ensures { OnOk result (IsAdded (formula_tree formula) left.old.items left.new.items (conditions_of self.old) (conditions_of self.new)) }
+    {
         match formula {
             Formula::Always => Ok(()),
             Formula::Never => {
@@ -57,8 +70,8 @@ impl Conditions {
                 Ok(())
             }
             Formula::Both(a, b) => {
-                self.add(Box::into_inner(a))?;
-                self.add(Box::into_inner(b))?;
+                left.push(Box::into_inner(b))?;
+                left.push(Box::into_inner(a))?;
                 Ok(())
             }
             Formula::Either(a, b) => {

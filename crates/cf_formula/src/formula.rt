@@ -1,9 +1,10 @@
 //! Formulas.
 ghost use Rattle.std.specs.Prelude.{◌≡◌, IfOk};
-ghost use Rattle.cf_formula.specs.Formulas.{always, never, at_least, equal};
+ghost use Rattle.cf_formula.specs.Formulas.{always, never, at_least, equal, both, either};
 ghost use Rattle.cf_formula.specs.FormulaView.{formula_tree};
 ghost use Rattle.cf_formula.specs.Members.{same_formula};
 
+use crate::lists::{all_with, any_with};
 use cf_linear::Row;
 use cf_tree::NoMemory;
 use std::alloc::Global;
@@ -99,23 +100,42 @@ impl Formula {
             Formula::Never => Ok(Formula::Never),
             Formula::AtLeast(row) => Ok(Formula::AtLeast(row.try_copy(alloc)?)),
             Formula::Equal(row) => Ok(Formula::Equal(row.try_copy(alloc)?)),
-            Formula::Both(a, b) => {
-                let first = a.boxed(alloc)?;
-                let second = b.boxed(alloc)?;
-                Ok(Formula::Both(first, second))
-            }
-            Formula::Either(a, b) => {
-                let first = a.boxed(alloc)?;
-                let second = b.boxed(alloc)?;
-                Ok(Formula::Either(first, second))
-            }
+            Formula::Both(a, b) => Formula::copy_and(alloc, a, b),
+            Formula::Either(a, b) => Formula::copy_or(alloc, a, b),
         }
     }
 
+    // An `and` of copies. The second part may be as deep as it has members: these are copied by a loop.
     #[cycle(copy_formula)]
-    fn boxed(&self, alloc: Global) -> Result<Box<Formula>, NoMemory>
-        ensures { IfOk result (λ new. formula_tree new.value ≡ formula_tree self.now) }
+    #[tactic(auto, using(crate::proofs::CopyCode::and_first, crate::proofs::CopyCode::and_next))]
+    fn copy_and(alloc: Global, first: &Formula, second: &Formula) -> Result<Formula, NoMemory>
+        ensures { IfOk result (λ new. formula_tree new ≡ both (formula_tree first.now) (formula_tree second.now)) }
     {
-        Ok(Box::new(alloc, self.try_copy(alloc)?)?)
+        let mut parts = Vec::new(alloc);
+        parts.push(first.try_copy(alloc)?)?;
+        let mut left = second;
+        while let Formula::Both(a, b) = left {
+            parts.push(a.try_copy(alloc)?)?;
+            left = b;
+        }
+        let last = left.try_copy(alloc)?;
+        all_with(alloc, parts, last)
+    }
+
+    // An `or` of copies in the same way.
+    #[cycle(copy_formula)]
+    #[tactic(auto, using(crate::proofs::CopyCode::or_first, crate::proofs::CopyCode::or_next))]
+    fn copy_or(alloc: Global, first: &Formula, second: &Formula) -> Result<Formula, NoMemory>
+        ensures { IfOk result (λ new. formula_tree new ≡ either (formula_tree first.now) (formula_tree second.now)) }
+    {
+        let mut parts = Vec::new(alloc);
+        parts.push(first.try_copy(alloc)?)?;
+        let mut left = second;
+        while let Formula::Either(a, b) = left {
+            parts.push(a.try_copy(alloc)?)?;
+            left = b;
+        }
+        let last = left.try_copy(alloc)?;
+        any_with(alloc, parts, last)
     }
 }

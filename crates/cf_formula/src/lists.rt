@@ -94,8 +94,15 @@ pub(crate) fn any_of(alloc: Global, formulas: Vec<Formula>) -> Result<Formula, N
     }
 }
 
-// The formula that holds exactly where each of these and the last one does.
-fn all_with(alloc: Global, formulas: Vec<Formula>, last: Formula) -> Result<Formula, NoMemory>
+/// The formula that holds exactly where each of these and the last one does.
+///
+/// # Errors
+/// `NoMemory` where memory ran out.
+pub(crate) fn all_with(
+    alloc: Global,
+    formulas: Vec<Formula>,
+    last: Formula,
+) -> Result<Formula, NoMemory>
     ensures { IfOk result (λ f. formula_tree f ≡ all_of (formula_trees formulas.items ++ (formula_tree last ∷ []))) }
 {
     let mut left = formulas;
@@ -106,8 +113,15 @@ fn all_with(alloc: Global, formulas: Vec<Formula>, last: Formula) -> Result<Form
     Ok(all)
 }
 
-// The formula that holds exactly where one of these or the last one does.
-fn any_with(alloc: Global, formulas: Vec<Formula>, last: Formula) -> Result<Formula, NoMemory>
+/// The formula that holds exactly where one of these or the last one does.
+///
+/// # Errors
+/// `NoMemory` where memory ran out.
+pub(crate) fn any_with(
+    alloc: Global,
+    formulas: Vec<Formula>,
+    last: Formula,
+) -> Result<Formula, NoMemory>
     ensures { IfOk result (λ f. formula_tree f ≡ any_of (formula_trees formulas.items ++ (formula_tree last ∷ []))) }
 {
     let mut left = formulas;

@@ -2,7 +2,7 @@
 ghost use Rattle.std.specs.Prelude.{◌≡◌, ◌++◌, ◌∷◌, [], map, filter, not, IfOk, OnOk};
 ghost use Rattle.std.specs.List.{list_any, flat_map};
 ghost use Rattle.cf_formula.specs.Formulas.{never};
-ghost use Rattle.cf_formula.specs.FormulaView.{formula_tree, formula_trees};
+ghost use Rattle.cf_formula.specs.FormulaView.{formula_tree, formula_trees, IsSplit};
 ghost use Rattle.cf_formula.specs.Members.{is_among, conjuncts, is_needless_or, and_of, conj};
 ghost use Rattle.cf_formula.specs.Members.{disjuncts, is_needless_and, is_covered, or_of, disj};
 
@@ -105,7 +105,7 @@ fn all_conjuncts(alloc: Global, parts: Vec<Formula>) -> Result<Vec<Formula>, NoM
     left.reverse();
     let mut out = Vec::new(alloc);
     while let Some(part) = left.pop() {
-        part.push_conjuncts(&mut out)?;
+        part.split_and(&mut left, &mut out)?;
     }
     Ok(out)
 }
@@ -118,7 +118,7 @@ fn all_disjuncts(alloc: Global, parts: Vec<Formula>) -> Result<Vec<Formula>, NoM
     left.reverse();
     let mut out = Vec::new(alloc);
     while let Some(part) = left.pop() {
-        part.push_disjuncts(&mut out)?;
+        part.split_or(&mut left, &mut out)?;
     }
     Ok(out)
 }
@@ -146,41 +146,65 @@ fn needless_ands(alloc: Global, members: &[Formula]) -> Result<Vec<bool>, NoMemo
 }
 
 impl Formula {
-    // Adds the members of the formula as an `and` to the end.
-    #[tactic(auto, using(crate::proofs::MemberCode::no_more, crate::proofs::MemberCode::more_members))]
-    fn push_conjuncts(self, out: &mut Vec<Formula>) -> Result<(), NoMemory>
-        ensures { OnOk result (formula_trees out.new.items ≡ formula_trees out.old.items ++ conjuncts (formula_tree self)) }
+    // Adds the formula to the end, or the parts of an `and` to those that are left, where the last one is the next.
+    #[tactic(auto, using(crate::proofs::MemberCode::none_left, crate::proofs::MemberCode::one_out, crate::proofs::MemberCode::both_and))]
+    fn split_and(self, left: &mut Vec<Formula>, out: &mut Vec<Formula>) -> Result<(), NoMemory>
+        ensures { OnOk result (IsSplit conjuncts (formula_tree self) left.old.items left.new.items out.old.items out.new.items) }
     {
         match self {
             Formula::Always => Ok(()),
-            Formula::Both(a, b) => {
-                Box::into_inner(a).push_conjuncts(out)?;
-                Box::into_inner(b).push_conjuncts(out)?;
+            Formula::Never => {
+                push(out, Formula::Never)?;
                 Ok(())
             }
-            Formula::Never => push(out, Formula::Never),
-            Formula::AtLeast(row) => push(out, Formula::AtLeast(row)),
-            Formula::Equal(row) => push(out, Formula::Equal(row)),
-            Formula::Either(a, b) => push(out, Formula::Either(a, b)),
+            Formula::AtLeast(row) => {
+                push(out, Formula::AtLeast(row))?;
+                Ok(())
+            }
+            Formula::Equal(row) => {
+                push(out, Formula::Equal(row))?;
+                Ok(())
+            }
+            Formula::Both(a, b) => {
+                left.push(Box::into_inner(b))?;
+                left.push(Box::into_inner(a))?;
+                Ok(())
+            }
+            Formula::Either(a, b) => {
+                push(out, Formula::Either(a, b))?;
+                Ok(())
+            }
         }
     }
 
-    // Adds the members of the formula as an `or` to the end.
-    #[tactic(auto, using(crate::proofs::MemberCode::no_more, crate::proofs::MemberCode::more_members))]
-    fn push_disjuncts(self, out: &mut Vec<Formula>) -> Result<(), NoMemory>
-        ensures { OnOk result (formula_trees out.new.items ≡ formula_trees out.old.items ++ disjuncts (formula_tree self)) }
+    // Adds the formula to the end, or the parts of an `or` to those that are left, where the last one is the next.
+    #[tactic(auto, using(crate::proofs::MemberCode::none_left, crate::proofs::MemberCode::one_out, crate::proofs::MemberCode::either_or))]
+    fn split_or(self, left: &mut Vec<Formula>, out: &mut Vec<Formula>) -> Result<(), NoMemory>
+        ensures { OnOk result (IsSplit disjuncts (formula_tree self) left.old.items left.new.items out.old.items out.new.items) }
     {
         match self {
             Formula::Never => Ok(()),
-            Formula::Either(a, b) => {
-                Box::into_inner(a).push_disjuncts(out)?;
-                Box::into_inner(b).push_disjuncts(out)?;
+            Formula::Always => {
+                push(out, Formula::Always)?;
                 Ok(())
             }
-            Formula::Always => push(out, Formula::Always),
-            Formula::AtLeast(row) => push(out, Formula::AtLeast(row)),
-            Formula::Equal(row) => push(out, Formula::Equal(row)),
-            Formula::Both(a, b) => push(out, Formula::Both(a, b)),
+            Formula::AtLeast(row) => {
+                push(out, Formula::AtLeast(row))?;
+                Ok(())
+            }
+            Formula::Equal(row) => {
+                push(out, Formula::Equal(row))?;
+                Ok(())
+            }
+            Formula::Either(a, b) => {
+                left.push(Box::into_inner(b))?;
+                left.push(Box::into_inner(a))?;
+                Ok(())
+            }
+            Formula::Both(a, b) => {
+                push(out, Formula::Both(a, b))?;
+                Ok(())
+            }
         }
     }
 

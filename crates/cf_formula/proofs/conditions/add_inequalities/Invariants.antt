@@ -1,9 +1,7 @@
 use Rattle.std.proofs.Common.{◌≡◌, length, map}
 use Rattle.std.specs.List.{list_any}
-use Rattle.cf_formula.specs.Atoms.{ge, eq}
+use Rattle.cf_formula.specs.Atoms.{ge}
 use Rattle.cf_formula.specs.ConditionsView.{conditions_of}
-use Rattle.cf_formula.specs.FormulaView.{formula_trees}
-use Rattle.cf_formula.specs.Rewriting.{with_rows, some_atom}
 use Rattle.cf_formula.specs.States.{add_all}
 use Rattle.cf_formula.specs.SubstitutionView.{pairs_of}
 use Rattle.cf_formula.specs.Turns.{subst_rows, rows_pass}

@@ -1,4 +1,4 @@
-use Rattle.std.proofs.Common.{rules, arith}
+use Rattle.std.proofs.Common.{arith}
 use Rattle.cf_formula.specs.FormulaView.{formula_trees}
 use Rattle.cf_formula.specs.Members.{unmarked}
 use Rattle.cf_formula.proofs.FormulaLists.{unmarked_start, unmarked_step, unmarked_done}

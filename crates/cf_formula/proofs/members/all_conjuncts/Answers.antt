@@ -10,8 +10,8 @@ loop-part-init c = flat_start conjuncts c.args.parts.items c.reverse.new.self.it
 
 pub loop-part-preserved : goal.loop-part-preserved
 loop-part-preserved c =
-    flat_step conjuncts c.loop-part.left.items c.pop.new.self.items c.loop-part.out.items c.push_conjuncts.new.out.items c.in-Some.part
-    (flat_map conjuncts (formula_trees c.args.parts.items)) c.in-Some.ensures.items c.in_ok-push_conjuncts.ensures c.loop-part.invariant
+    flat_step conjuncts c.loop-part.left.items c.pop.new.self.items c.split_and.new.left.items c.loop-part.out.items c.split_and.new.out.items c.in-Some.part
+    (flat_map conjuncts (formula_trees c.args.parts.items)) c.in-Some.ensures.items c.in_ok-split_and.ensures c.loop-part.invariant
 
 pub returns : goal.returns
 returns c =

@@ -10,8 +10,8 @@ loop-part-init c = flat_start disjuncts c.args.parts.items c.reverse.new.self.it
 
 pub loop-part-preserved : goal.loop-part-preserved
 loop-part-preserved c =
-    flat_step disjuncts c.loop-part.left.items c.pop.new.self.items c.loop-part.out.items c.push_disjuncts.new.out.items c.in-Some.part
-    (flat_map disjuncts (formula_trees c.args.parts.items)) c.in-Some.ensures.items c.in_ok-push_disjuncts.ensures c.loop-part.invariant
+    flat_step disjuncts c.loop-part.left.items c.pop.new.self.items c.split_or.new.left.items c.loop-part.out.items c.split_or.new.out.items c.in-Some.part
+    (flat_map disjuncts (formula_trees c.args.parts.items)) c.in-Some.ensures.items c.in_ok-split_or.ensures c.loop-part.invariant
 
 pub returns : goal.returns
 returns c =

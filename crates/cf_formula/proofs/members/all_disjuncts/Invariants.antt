@@ -1,6 +1,6 @@
-use Rattle.std.proofs.Common.{◌≡◌, ◌++◌, length, reverse}
+use Rattle.std.proofs.Common.{◌≡◌, ◌++◌, reverse}
 use Rattle.std.specs.List.{flat_map}
-use Rattle.cf_formula.specs.FormulaView.{formula_trees}
+use Rattle.cf_formula.specs.FormulaView.{formula_trees, size_of_all}
 use Rattle.cf_formula.specs.Members.{disjuncts}
 use Rattle.cf_formula.proofs.members.all_disjuncts.Given as goal
 
@@ -9,4 +9,4 @@ invariant-loop-part l = formula_trees l.out.items ++ flat_map disjuncts (formula
     (formula_trees l.fn.parts.items)
 
 abbrev pub decreases-loop-part : goal.decreases-loop-part
-decreases-loop-part l = length l.left.items
+decreases-loop-part l = size_of_all (formula_trees (reverse l.left.items))

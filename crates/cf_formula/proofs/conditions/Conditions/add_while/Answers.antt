@@ -1,8 +1,6 @@
 use Rattle.std.proofs.Common.{rules}
 use Rattle.cf_formula.specs.ConditionsView.{conditions_of}
-use Rattle.cf_formula.specs.FormulaView.{formula_trees}
-use Rattle.cf_formula.specs.Simplifying.{add_while}
-use Rattle.cf_formula.proofs.SimplifyCode.{while_start, while_next, while_dead, while_done}
+use Rattle.cf_formula.proofs.SimplifyCode.{while_start, while_next}
 use Rattle.cf_formula.proofs.conditions.Conditions.add_while.Goals as goal
 
 pub loop-formula-init : goal.loop-formula-init
