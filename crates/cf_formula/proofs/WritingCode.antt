@@ -25,8 +25,9 @@ use Rattle.cf_formula.specs.Answers.{FormulaAnswer}
 use Rattle.cf_formula.specs.declared.formula.Formula.{Formula as DeclaredFormula}
 use Rattle.cf_formula.specs.declared.ways.Written.{Written as DeclaredWritten}
 use Rattle.cf_formula.specs.Formulas.{Formula}
-use Rattle.cf_formula.specs.Writing.{Written, Ways, with_way, ways_written, Flat, with_abs, in_order, turned_parts, compared, flat_difference, flat_or_ways, atom_written, normal_written, region_formulas}
-use Rattle.cf_formula.specs.WritingAnswers.{IsAtom, atom_in, way_count, empty_rows, ways_pass, with_rows_way, all_ways, formula_behind, flat_formula, flat_passes, flat_in, flat_in_passes, with_abs_passes, part_passes, with_part, at_least_passes, at_most_passes, compared_passes, joined_formula, written_or, normal_passes, joined_written, WrittenAnswer}
+use Rattle.cf_formula.specs.Writing.{Written, Ways, with_way, ways_written, Flat, with_abs, in_order, turned_parts, compared, flat_difference, flat_or_ways, atom_written, normal_written, region_formulas, written, first_columns, first_conditions}
+use Rattle.cf_formula.specs.States.{add, no_conditions}
+use Rattle.cf_formula.specs.WritingAnswers.{IsAtom, atom_in, way_count, empty_rows, ways_pass, with_rows_way, all_ways, formula_behind, flat_formula, flat_passes, flat_in, flat_in_passes, with_abs_passes, part_passes, with_part, at_least_passes, at_most_passes, compared_passes, joined_formula, written_or, normal_passes, joined_written, first_columns_of, WrittenAnswer}
 
 -- ---- lists that a loop walks
 pub mapped_step : {A B : Type 0} (f : A → B) (out new whole : List B) (x : A) (rest : List A) (y : B) → y ≡ f x → new ≡ out ++ (y ∷ []) →
@@ -366,3 +367,11 @@ regions_made l a b c none sums none_too counts n s e m t g =
     ap (map ge) (t ∙ ap (λ rs. rs ++ map unit (masks (set_count l))) m) ∙ two_maps ge unit (masks (set_count l)) in
     g ∙ ap (λ fs. fs ++ map ge counts) e ∙ append_assoc a (map eq sums) (map ge counts) ∙ ap (λ fs. a ++ (fs ++ map ge counts)) x ∙
     ap (λ fs. a ++ (map (λ m. eq (input_row l m)) (masks (length l.inputs)) ++ fs)) y
+
+-- ---- a first state
+-- the columns and the conditions that the calls make of the formula are the first ones of the relation
+pub columns_are_first : (l : Layout) (rel : RelTree) → first_columns_of l (written l rel).next ≡ first_columns l rel
+columns_are_first l rel = refl
+
+pub conditions_are_first : (l : Layout) (rel : RelTree) → add (written l rel).formula no_conditions ≡ first_conditions l rel
+conditions_are_first l rel = refl
