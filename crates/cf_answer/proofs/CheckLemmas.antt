@@ -28,12 +28,12 @@ use Rattle.cf_warn.specs.declared.coverage.Cover.{Cover}
 use Rattle.cf_warn.specs.declared.coverage.Cover.TheVariants as cover
 use Rattle.cf_answer.specs.Checks.{IsMatch, IsArm, IsOwn, AreLines, of_choose, of_told, of_arm, of_match, AreLinesBy, IsCheckBehind, AreChecksBehind, asked_of, told_existence_line, told_uniqueness_line, cover_line, existence_line, existence_text, names_at, uniqueness_line, uniqueness_text}
 use Rattle.cf_answer.specs.Checking.{AddsCheck, AddsCheckBehind, AddsTold, AddsCover, AddsExistence, AddsUniqueness}
-use Rattle.cf_answer.specs.Tells.{HoldsCondition, HoldConditions, TellsArm, TellsClasses, TellsCover, TellsExistence, TellsUniqueness}
+use Rattle.cf_answer.specs.Tells.{TellsClasses, TellsCover, TellsExistence, TellsUniqueness}
 use Rattle.cf_answer.specs.ToldChecks.{Asked, named_levels, told_of, is_later_branch}
 use Rattle.cf_answer.specs.Unmet.{answered, nothing_answered, nothing_unmet, unmet_cover, unmet_existence, unmet_uniqueness, with_answered, with_unmet}
 use Rattle.cf_answer.specs.declared.unmet.Answered.{Answered}
 use Rattle.cf_answer.specs.declared.unmet.Unmet.{Unmet}
-use Rattle.cf_form.specs.Told.{ToldChoose}
+use Rattle.cf_form.specs.Told.{HoldsCondition, HoldConditions, ToldChoose}
 use Rattle.cf_cert.proofs.WayLaws.{dropped_one}
 use Rattle.cf_answer.specs.Texts.{numbered_line}
 use Rattle.cf_answer.proofs.LoweredLemmas.{chooses_source}

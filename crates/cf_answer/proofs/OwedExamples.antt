@@ -1,6 +1,6 @@
 -- Worked examples: what each command owes on the texts of its files.
 use Rattle.std.proofs.Common.{◌≡◌, ◌⊎◌, ℕ, ℤ, Bool, true, false, nat_le, List, [], ◌∷◌, length, inl, inr, refl, sym, subst, codes}
-use Rattle.std.specs.Prelude.{negsuc, flat_map}
+use Rattle.std.specs.Prelude.{negsuc, flat_map, Result, Ok}
 use Rattle.std.specs.Fmt.{digits}
 use Rattle.cf_gen.specs.Workload.{gen_source, gen_lines}
 use Rattle.cf_io.specs.Limits.{line_limit}
@@ -30,11 +30,13 @@ use Rattle.cf_answer.specs.Branches.{AreBranched}
 use Rattle.cf_answer.specs.Certificates.{AreProofs, AreVerified, verified_line}
 use Rattle.cf_answer.specs.Forms.{as_text, Form, form_of}
 use Rattle.cf_answer.specs.LateReplies.{AreRunsAllowed}
-use Rattle.cf_answer.specs.Owed.{by_target, by_late, comes_by, IsReplyBy, Replier, AllReplied, AreReplies, ArePicked, IsCompiledBy, OwesRun, compiled, late, IsPrinted, AllWritten, ArePres, AreChecks, IsSum, sum_line, Owes}
+use Rattle.cf_answer.specs.Owed.{by_target, by_late, comes_by, IsReplyBy, Replier, AllReplied, AreReplies, ArePicked, IsCompiledBy, OwesRun, compiled, late, IsPrinted, AllWritten, ArePres, AreChecks, AreSourceChecks, IsSum, sum_line, Owes, Judges}
 use Rattle.cf_answer.specs.Passes.{applied}
 use Rattle.cf_answer.specs.Replies.{too_long, bad_input, comes}
 use Rattle.cf_answer.specs.ResultNames.{AreResultNames}
 use Rattle.cf_answer.specs.Sources.{Compiles, IsTypedSource, AreToldIn, AreToldOf, IsLateSource, IsTypedTarget}
+use Rattle.cf_answer.specs.Unmet.{judged}
+use Rattle.cf_answer.specs.declared.fault.Fault.{Fault}
 use Rattle.cf_answer.specs.declared.unmet.Answered.{Answered}
 
 -- the same is owed
@@ -76,6 +78,14 @@ module _ (form : ReplyForm) (written : Form) (name other source steps : List ℕ
   of-strict_check : Same (Owes (check strictness.Unique name) (source ∷ []) given last ls text)
       (Owes (check strictness.Told name) (source ∷ []) given last ls text)
   of-strict_check = (λ h. h, λ h. h)
+
+  -- and ends by what its lines answer; any other command is done
+  judged-check : (answer : Result (Unit {0}) Fault) → Same (Judges (check strictness.Unique name) (source ∷ []) text answer)
+      ((a : Answered) × AreSourceChecks source text a × (answer ≡ judged strictness.Unique a))
+  judged-check answer = (λ h. h, λ h. h)
+
+  judged-pre : (answer : Result (Unit {0}) Fault) → Same (Judges (pre name) (source ∷ []) text answer) (answer ≡ Ok tt)
+  judged-pre answer = (λ h. h, λ h. h)
 
   of-exec : Same (Owes (exec form name) (source ∷ []) given last ls text)
       ((t : RawTarget) × IsTypedTarget source (target_tree t) × AreReplies (record { by = by_target t; form = form_of form [] }) ls text)

@@ -105,6 +105,12 @@ said-of_the_outside : IsSaid Plain name in_three fault.File (codes "cannot read 
     × IsSaid Plain name in_three fault.OutputTooLong (codes "text too long\n")
 said-of_the_outside = (refl, refl, refl, refl, refl)
 
+-- a strict check has refused nothing, so its line is that of language 2
+said-of_answers : IsSaid Plain name in_three (fault.AnswersNo 2) (codes "check: 2 answers are no\n")
+    × IsSaid Plain name in_three (fault.AnswersUndecided 1) (codes "check: 1 answer is undecided\n")
+unfolding digits
+said-of_answers = (refl, refl)
+
 said-of_steps : IsSaid Plain name in_three (fault.Steps (Syntax (at 3 4))) (codes "steps line 3 column 4: syntax\n")
 unfolding digits
 said-of_steps = refl

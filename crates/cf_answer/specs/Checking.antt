@@ -12,7 +12,7 @@ use Rattle.cf_tree.specs.Values.{Value}
 use Rattle.cf_choose.specs.declared.fault.ChooseFault.{ChooseFault}
 use Rattle.cf_choose.specs.declared.fault.ChooseFault.TheVariants as faults
 use Rattle.cf_choose.specs.declared.solved.SolvedParts.{SolvedParts}
-use Rattle.cf_form.specs.Told.{ToldChoose}
+use Rattle.cf_form.specs.Told.{HoldsCondition, HoldConditions, ToldChoose}
 use Rattle.cf_form.specs.ToldView.{told_choose, truth_at}
 use Rattle.cf_form.specs.declared.told.TruthAt.{TruthAt}
 use Rattle.cf_build.specs.Solves.{IsSolved}
@@ -27,7 +27,7 @@ use Rattle.cf_warn.specs.declared.answer.UniquenessAnswer.{UniquenessAnswer}
 use Rattle.cf_warn.specs.declared.answer.UniquenessAnswer.TheVariants as uniqueness
 use Rattle.cf_warn.specs.declared.coverage.Cover.{Cover}
 use Rattle.cf_answer.specs.Checks.{IsMatch, IsArm, IsOwn, AreLines, IsCheckBehind, asked_of, cover_line, told_existence_line, told_uniqueness_line, existence_text, names_at, uniqueness_text}
-use Rattle.cf_answer.specs.Tells.{HoldsCondition, HoldConditions, TellsExistence, TellsUniqueness}
+use Rattle.cf_answer.specs.Tells.{TellsExistence, TellsUniqueness}
 use Rattle.cf_answer.specs.Texts.{numbered_line}
 use Rattle.cf_answer.specs.ToldChecks.{Asked, named_sample}
 use Rattle.cf_answer.specs.Unmet.{answered, unmet_cover, unmet_existence, unmet_uniqueness}

@@ -1,16 +1,16 @@
 -- What the answers of `check` on a choose of edition 3 say, by what its condition and its relation mean. Nothing is said of how an answer is found, and an
 -- undecided one promises nothing.
-use Rattle.std.specs.Prelude.{ℕ, ℤ, ◌≡◌, ◌≢◌, ◌<◌, ◌&&◌, ⊤, Bool, true, Option, Some, None, List, [], ◌∷◌, length, map, All, Any}
+use Rattle.std.specs.Prelude.{ℕ, ℤ, ◌≡◌, ◌≢◌, ◌<◌, ◌&&◌, ⊤, Bool, true, not, Option, Some, None, List, [], ◌∷◌, length, map, All, Any}
 use Rattle.cf_tree.specs.declared.base.Base.{Base}
 use Rattle.cf_tree.specs.declared.base.Edition.{Edition}
 use Rattle.cf_tree.specs.declared.base.Edition.TheVariants.{Two, Three}
 use Rattle.cf_tree.specs.Occurs.{rel_holds}
-use Rattle.cf_tree.specs.Relation.{Holds, Sol, IsTyped}
+use Rattle.cf_tree.specs.Relation.{Sol, IsTyped}
 use Rattle.cf_tree.specs.RelTree.{RelTree}
 use Rattle.cf_tree.specs.Values.{Value, truth, value_at, HaveBases}
 use Rattle.cf_eval.specs.Seen.{plains}
 use Rattle.cf_form.specs.Branches.{Branch, is_among, is_truth as is_truth_base, values_in}
-use Rattle.cf_form.specs.Told.{ToldBranch, ToldChoose}
+use Rattle.cf_form.specs.Told.{Allows, ToldBranch}
 use Rattle.cf_match.specs.declared.class.Class.{Class}
 use Rattle.cf_match.specs.Classes.{IsIn}
 use Rattle.cf_warn.specs.Covers.{IsCover}
@@ -25,11 +25,6 @@ use Rattle.cf_warn.specs.declared.coverage.Cover.TheVariants as cover
 use Rattle.cf_answer.specs.ToldChecks.{Asked, existence_question, shown_values}
 
 -- ---- inputs
--- the condition holds, if there is one
-abbrev pub Allows : Option RelTree → List Value → Type 0
-Allows None env = ⊤
-Allows (Some p) env = Holds p env
-
 -- values of the variables in scope that belong to a branch, and for which the condition holds
 pub record IsInput (scope : List Base) (b : ToldBranch) (env : List Value) : Type 0 where
   pub bases : HaveBases scope env
@@ -114,13 +109,6 @@ TellsCover Two classes c = IsCover classes c
 TellsCover Three classes c = TellsClasses classes c
 
 -- ---- within the program
--- The condition of a branch is part of its relation, so that it holds where outputs satisfy that.
-abbrev pub HoldsCondition : ToldBranch → Type 0
-HoldsCondition b = (env : List Value) → Holds b.relation env → Allows b.given env
-
-abbrev pub HoldConditions : List ToldChoose → Type 0
-HoldConditions told = All (λ c. All HoldsCondition c.branches) told
-
 -- a condition speaks of variables in scope alone
 abbrev pub IsCondition : List Base → Option RelTree → Type 0
 IsCondition scope None = ⊤
@@ -132,6 +120,10 @@ IsOfTwo uniqueness.Unique = ⊤
 IsOfTwo (uniqueness.Two sample first second) = plains first.items ≢ plains second.items
 IsOfTwo (uniqueness.Undecided d) = ⊤
 
+-- a variable that samples name, and that is no truth variable
+abbrev pub is_named : Asked → ℕ → Bool
+is_named a x = not (is_truth_base (base_at a.scope x)) && is_among x a.levels
+
 -- truth variables of the scope that samples name
 abbrev pub is_truth : Asked → ℕ → Bool
 is_truth a x = is_truth_base (base_at a.scope x) && is_among x a.levels
@@ -140,8 +132,9 @@ abbrev pub are_truths : Asked → Branch → Bool
 are_truths a [] = true
 are_truths a (t ∷ ts) = is_truth a t.0 && are_truths a ts
 
--- what is asked of a branch is of this scope: samples name its truth variables, and all variables of which its condition and its relation speak
+-- what is asked of a branch is of this scope: samples name its truth variables, and all variables of which its condition and its relation speak, which are
+-- numbers and sets
 pub record Fits (a : Asked) (b : ToldBranch) : Type 0 where
   pub truths : are_truths a b.truths ≡ true
   pub condition : IsCondition a.scope b.given
-  pub named : (x : ℕ) → x < length a.scope → rel_holds x (existence_question b) ≡ true → is_among x a.levels ≡ true
+  pub named : (x : ℕ) → x < length a.scope → rel_holds x (existence_question b) ≡ true → is_named a x ≡ true

@@ -12,7 +12,7 @@ ghost use Rattle.cf_answer.specs.Limits.{text_limit};
 ghost use Rattle.cf_answer.specs.Outside.{streams};
 ghost use Rattle.cf_answer.specs.Statuses.{status_of as the_status_of, IsEarly};
 ghost use Rattle.cf_tree.specs.Params.{names_of};
-ghost use Rattle.cf_form.specs.Told.{ToldChoose};
+ghost use Rattle.cf_form.specs.Told.{HoldConditions, ToldChoose};
 ghost use Rattle.cf_form.specs.ToldView.{told_choose};
 ghost use Rattle.cf_match.specs.Matches.{MatchTree, match_tree};
 ghost use Rattle.cf_tree.specs.ChooseTree.{ChooseTree};
@@ -24,7 +24,6 @@ ghost use Rattle.cf_answer.specs.Owed.{AreChecks, AreSourceChecks};
 ghost use Rattle.cf_answer.specs.Refusals.{IsRefusedSource};
 ghost use Rattle.cf_answer.specs.Sources.{IsLoweredSource};
 ghost use Rattle.cf_answer.specs.Steps.{IsVerdict};
-ghost use Rattle.cf_answer.specs.Tells.{HoldConditions};
 ghost use Rattle.cf_answer.specs.Texts.{numbered_line};
 ghost use Rattle.cf_answer.specs.ToldChecks.{is_later_branch as is_later_branch_of, told_of as the_told_of};
 

@@ -6,6 +6,7 @@ ghost use Rattle.cf_tree.specs.RelView.{rel_tree};
 ghost use Rattle.cf_tree.specs.Values.{elements, number as the_number, number_of, truth as the_truth};
 ghost use Rattle.cf_eval.specs.Seen.{plain, plains};
 ghost use Rattle.cf_form.specs.Branches.{is_among as is_among_of, values_in};
+ghost use Rattle.cf_form.specs.Told.{HoldsCondition};
 ghost use Rattle.cf_form.specs.ToldView.{given_tree, told_branch, told_choose, truth_at};
 ghost use Rattle.cf_choose.specs.Solved.{IsOutput, SolveAnswer};
 ghost use Rattle.cf_warn.specs.Questions.{base_at as the_base_at};
@@ -17,8 +18,8 @@ ghost use Rattle.cf_answer.specs.ToldChecks.{first_existence as first_existence_
 ghost use Rattle.cf_answer.specs.ToldChecks.{is_told as is_told_of, named_levels as named_levels_of};
 ghost use Rattle.cf_answer.specs.ToldChecks.{shown_value as shown_value_of, shown_values as shown_values_of, some_condition_holds as some_condition_holds_of};
 ghost use Rattle.cf_answer.specs.ToldChecks.{told_of as the_told_of, truth_or};
-ghost use Rattle.cf_answer.specs.Tells.{are_truths as are_truths_of, is_truth as is_truth_of};
-ghost use Rattle.cf_answer.specs.Tells.{Fits, HoldsCondition, IsCondition, IsOfTwo, TellsExistence, TellsExistenceIn, TellsUniqueness, TellsUniquenessIn};
+ghost use Rattle.cf_answer.specs.Tells.{are_truths as are_truths_of, is_named as is_named_of, is_truth as is_truth_of};
+ghost use Rattle.cf_answer.specs.Tells.{Fits, IsCondition, IsOfTwo, TellsExistence, TellsExistenceIn, TellsUniqueness, TellsUniquenessIn};
 ghost use Rattle.cf_answer.specs.Checking.{IsExistenceOf, IsRefusedExistence, IsRefusedUniqueness, IsUniquenessOf, asked_view, named_by, telling_view};
 
 use cf_choose::{ChooseFault, Solved, solve};
@@ -455,10 +456,11 @@ fn is_condition(scope: &[Base], given: &Option<Rel>) -> bool
     }
 }
 
-// Whether samples name all variables in scope of which the question of a branch speaks.
+// Whether samples name all variables in scope of which the question of a branch speaks, and none of these
+// is a truth variable.
 fn are_named(asked: &Asked<'_>, branch: &Branch) -> bool
     ensures { result ≡ true → (x : ℕ) → x < length asked.now.scope.now → rel_holds_of x (question_of (told_branch branch.now)) ≡ true →
-        is_among_of x asked.now.levels.now ≡ true }
+        is_named_of (asked_view asked.now) x ≡ true }
 {
     let Ok(end) = to_u32(asked.scope.len()) else {
         return false;
@@ -472,12 +474,22 @@ fn are_named(asked: &Asked<'_>, branch: &Branch) -> bool
 }
 
 fn is_named_if_asked(asked: &Asked<'_>, branch: &Branch, level: u32) -> bool
-    ensures { result ≡ true → rel_holds_of level (question_of (told_branch branch.now)) ≡ true → is_among_of level asked.now.levels.now ≡ true }
+    ensures { result ≡ true → rel_holds_of level (question_of (told_branch branch.now)) ≡ true → is_named_of (asked_view asked.now) level ≡ true }
 {
     if asks_of(branch, level) {
-        is_among(level, asked.levels)
+        is_named_value(asked, level)
     } else {
         true
+    }
+}
+
+// Whether samples name the variable of this level, which is no truth variable.
+fn is_named_value(asked: &Asked<'_>, level: u32) -> bool
+    ensures { result ≡ is_named_of (asked_view asked.now) level }
+{
+    match base_at(asked.scope, level) {
+        Base::Bool => false,
+        Base::Int | Base::Set => is_among(level, asked.levels),
     }
 }
 

@@ -4,7 +4,7 @@ use Rattle.cf_match.specs.Matches.{match_tree}
 use Rattle.cf_tree.specs.ChooseTree.{ChooseTree}
 use Rattle.cf_tree.specs.declared.base.Edition.{Edition}
 use Rattle.cf_build.specs.Solves.{AreSolved}
-use Rattle.cf_answer.specs.Tells.{HoldConditions}
+use Rattle.cf_form.specs.Told.{HoldConditions}
 use Rattle.cf_answer.proofs.CheckLemmas.{IsWalked}
 use Rattle.cf_answer.proofs.check.check_each.Given as goal
 

@@ -5,7 +5,7 @@ use Rattle.cf_tree.specs.declared.base.Edition.TheVariants.{Three}
 use Rattle.cf_form.specs.ToldView.{told_choose}
 use Rattle.cf_answer.specs.Owed.{AreChecks}
 use Rattle.cf_answer.specs.Sources.{AreToldIn}
-use Rattle.cf_answer.proofs.FormedLemmas.{formed_lowered}
+use Rattle.cf_answer.proofs.FormedLemmas.{conditions_held, formed_lowered}
 use Rattle.cf_answer.proofs.MatchClassLemmas.{told_classes}
 use Rattle.cf_answer.proofs.TextLemmas.{broken_refused}
 use Rattle.cf_answer.proofs.check.checks_in_three.Goals as goal
@@ -27,7 +27,7 @@ returns-in_err-checks c =
     let defs = rw c.typed-typed.ensures at c.in_ok-lowered.ensures.defs in
     let matches = rw c.typed-typed.ensures at c.in_ok-lowered.ensures.matches in
     let s = formed_lowered c.args.text.now c.in_ok-formed.formed c.in_ok-lowered.lowered c.requires.edition c.in_ok-formed.ensures typed defs matches in
-    rw (p.1, p.2) (c.in_err-checks.ensures Three c.args.text.now s (conditions_held c.in_ok-formed.formed c.in_ok-formed.ensures))
+    rw (p.1, p.2) (c.in_err-checks.ensures Three c.args.text.now s (conditions_held c.args.text.now c.in_ok-formed.formed c.in_ok-formed.ensures))
 
 pub returns : goal.returns
 returns c =
@@ -42,5 +42,5 @@ returns c =
       s.typed,
       s.is,
       subst (λ e. AreChecks e told s.typed c.in_ok-checks.checks.text.items c.in_ok-checks.checks.answered) (sym c.requires.edition)
-          (rw c.chooses.ensures at c.in_ok-checks.ensures Three c.args.text.now s (conditions_held c.in_ok-formed.formed c.in_ok-formed.ensures)),
+          (rw c.chooses.ensures at c.in_ok-checks.ensures Three c.args.text.now s (conditions_held c.args.text.now c.in_ok-formed.formed c.in_ok-formed.ensures)),
     )

@@ -4,7 +4,7 @@ use Rattle.std.proofs.lemmas.Result.{err_from_is_err_and}
 use Rattle.cf_tree.specs.declared.base.Edition.TheVariants.{Two}
 use Rattle.cf_answer.specs.Owed.{AreChecks}
 use Rattle.cf_answer.specs.Sources.{AreToldIn}
-use Rattle.cf_answer.specs.Tells.{HoldsCondition}
+use Rattle.cf_form.specs.Told.{HoldsCondition}
 use Rattle.cf_answer.proofs.TextLemmas.{broken_refused}
 use Rattle.cf_answer.proofs.check.checks_in_two.Goals as goal
 

@@ -3,7 +3,8 @@ use Rattle.cf_form.specs.ToldView.{told_branch}
 use Rattle.cf_warn.specs.declared.answer.UniquenessAnswer.{UniquenessAnswer}
 use Rattle.cf_warn.specs.declared.answer.UniquenessAnswer.TheVariants.{Unique}
 use Rattle.cf_answer.specs.Checking.{asked_view}
-use Rattle.cf_answer.specs.Tells.{HoldsCondition, TellsUniquenessIn}
+use Rattle.cf_form.specs.Told.{HoldsCondition}
+use Rattle.cf_answer.specs.Tells.{TellsUniquenessIn}
 use Rattle.cf_answer.specs.ToldChecks.{ComeTo, first_uniqueness}
 use Rattle.cf_answer.proofs.told_check.uniqueness_in_all.Given as goal
 
