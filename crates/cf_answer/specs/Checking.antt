@@ -12,6 +12,7 @@ use Rattle.cf_tree.specs.Values.{Value}
 use Rattle.cf_choose.specs.declared.fault.ChooseFault.{ChooseFault}
 use Rattle.cf_choose.specs.declared.fault.ChooseFault.TheVariants as faults
 use Rattle.cf_choose.specs.declared.solved.SolvedParts.{SolvedParts}
+use Rattle.cf_decide.specs.Answers.{SaysExistence, SaysUniqueness}
 use Rattle.cf_form.specs.Told.{HoldsCondition, HoldConditions, ToldChoose}
 use Rattle.cf_form.specs.ToldView.{told_choose, truth_at}
 use Rattle.cf_form.specs.declared.told.TruthAt.{TruthAt}
@@ -92,12 +93,12 @@ abbrev pub telling_view : Telling → Option ToldChoose
 telling_view Nothing = None
 telling_view (Told c) = Some (told_choose c.now)
 
--- the verdicts of a solved relation
+-- what is said of a solved relation
 abbrev pub IsExistenceOf : SolvedParts → ExistenceAnswer → Type 0
-IsExistenceOf s e = IsExistence s.scope.items s.outputs.items (rel_tree s.rel) e
+IsExistenceOf s e = SaysExistence s.scope.items s.outputs.items (rel_tree s.rel) e
 
 abbrev pub IsUniquenessOf : SolvedParts → ℕ → UniquenessAnswer → Type 0
-IsUniquenessOf s shown u = IsUniqueness s.scope.items s.outputs.items shown (rel_tree s.rel) u
+IsUniquenessOf s shown u = SaysUniqueness s.scope.items s.outputs.items shown (rel_tree s.rel) u
 
 -- that a question which is refused is not decided
 abbrev pub IsRefusedExistence : ChooseFault → ExistenceAnswer → Type 0

@@ -23,14 +23,13 @@ ghost use Rattle.cf_answer.specs.Tells.{Fits, IsCondition, IsOfTwo, TellsExisten
 ghost use Rattle.cf_answer.specs.Checking.{IsExistenceOf, IsRefusedExistence, IsRefusedUniqueness, IsUniquenessOf, asked_view, named_by, telling_view};
 
 use cf_choose::{ChooseFault, Solved, solve};
+use cf_decide::{Effort, decide_existence, decide_uniqueness};
 use cf_eval::Value;
 use cf_form::{Branch, ChooseInfo, TruthAt};
 use cf_set::Set;
 use cf_setwit::push_if;
 use cf_tree::{Base, NoMemory, Rel, rel_holds, to_u32, without};
-use cf_warn::{
-    Doubt, ExistenceAnswer, UniquenessAnswer, existence, is_over, parameters, uniqueness,
-};
+use cf_warn::{Doubt, ExistenceAnswer, UniquenessAnswer, is_over, parameters};
 use std::alloc::Global;
 
 // What is asked of each branch: the bases of the scope, of all outputs, and of those that are given
@@ -314,6 +313,7 @@ fn branch_existence(
     alloc: Global,
     asked: &Asked<'_>,
     branch: &Branch,
+    effort: Effort,
 ) -> Result<ExistenceAnswer, NoMemory>
     requires { All IsOutput asked.now.outputs.now }
     ensures { IfOk result (IsBranchExistence (asked_view asked.now) (told_branch branch.now)) }
@@ -322,7 +322,7 @@ fn branch_existence(
     let solved = solved_over(alloc, asked, &rel);
     drop(rel);
     match solved {
-        Ok(solved) => named_existence(alloc, asked, &branch.truths, &solved),
+        Ok(solved) => named_existence(alloc, asked, &branch.truths, &solved, effort),
         Err(fault) => refused_existence(fault),
     }
 }
@@ -341,13 +341,14 @@ fn named_existence(
     asked: &Asked<'_>,
     truths: &[TruthAt],
     solved: &Solved,
+    effort: Effort,
 ) -> Result<ExistenceAnswer, NoMemory>
     requires { solved.now.scope.items ≡ asked.now.scope.now }
     ensures { IfOk result (λ told. (own : ExistenceAnswer) × IsExistenceOf solved.now own
         × NamesExistence (named_by asked.now truths.now solved.now) own told) }
 {
     let params = parameters(alloc, solved)?;
-    match existence(alloc, solved)? {
+    match decide_existence(alloc, solved, effort)? {
         ExistenceAnswer::Always => Ok(ExistenceAnswer::Always),
         ExistenceAnswer::Missing(sample) => {
             let named = named_sample(alloc, asked, truths, &params, &sample)?;
@@ -362,12 +363,13 @@ fn branch_uniqueness(
     alloc: Global,
     asked: &Asked<'_>,
     branch: &Branch,
+    effort: Effort,
 ) -> Result<UniquenessAnswer, NoMemory>
     requires { All IsOutput asked.now.outputs.now }
     ensures { IfOk result (IsBranchUniqueness (asked_view asked.now) (told_branch branch.now)) }
 {
     match solved_over(alloc, asked, &branch.relation) {
-        Ok(solved) => named_uniqueness(alloc, asked, &branch.truths, &solved),
+        Ok(solved) => named_uniqueness(alloc, asked, &branch.truths, &solved, effort),
         Err(fault) => refused_uniqueness(fault),
     }
 }
@@ -386,13 +388,14 @@ fn named_uniqueness(
     asked: &Asked<'_>,
     truths: &[TruthAt],
     solved: &Solved,
+    effort: Effort,
 ) -> Result<UniquenessAnswer, NoMemory>
     requires { solved.now.scope.items ≡ asked.now.scope.now }
     ensures { IfOk result (λ told. (own : UniquenessAnswer) × IsUniquenessOf solved.now (length asked.now.shown.now) own
         × NamesUniqueness (named_by asked.now truths.now solved.now) asked.now.shown.now own told) }
 {
     let params = parameters(alloc, solved)?;
-    match uniqueness(alloc, solved, asked.shown.len())? {
+    match decide_uniqueness(alloc, solved, asked.shown.len(), effort)? {
         UniquenessAnswer::Unique => Ok(UniquenessAnswer::Unique),
         UniquenessAnswer::Two {
             sample,
@@ -504,6 +507,7 @@ fn existence_in(
     alloc: Global,
     asked: &Asked<'_>,
     branch: &Branch,
+    effort: Effort,
 ) -> Result<ExistenceAnswer, NoMemory>
     requires { All IsOutput asked.now.outputs.now }
     ensures { IfOk result (TellsExistenceIn (asked_view asked.now) (told_branch branch.now)) }
@@ -511,7 +515,7 @@ fn existence_in(
     if !fits(asked, branch) {
         return Err(NoMemory);
     }
-    branch_existence(alloc, asked, branch)
+    branch_existence(alloc, asked, branch, effort)
 }
 
 // The same of uniqueness, where the condition is part of the relation. Where both are given out alike
@@ -520,6 +524,7 @@ fn uniqueness_in(
     alloc: Global,
     asked: &Asked<'_>,
     branch: &Branch,
+    effort: Effort,
 ) -> Result<UniquenessAnswer, NoMemory>
     requires { All IsOutput asked.now.outputs.now }
     ensures { IfOk result (λ u. HoldsCondition (told_branch branch.now) → TellsUniquenessIn (asked_view asked.now) (told_branch branch.now) u) }
@@ -527,7 +532,7 @@ fn uniqueness_in(
     if !fits(asked, branch) {
         return Err(NoMemory);
     }
-    let answer = branch_uniqueness(alloc, asked, branch)?;
+    let answer = branch_uniqueness(alloc, asked, branch, effort)?;
     if is_of_two(&answer) {
         Ok(answer)
     } else {
@@ -626,13 +631,22 @@ fn existence_in_all(
     let mut answer = ExistenceAnswer::Always;
     let mut rest = branches;
     while let Some((branch, more)) = rest.split_first() {
-        match existence_in(alloc, asked, branch) {
+        let effort = effort_for_existence(&answer);
+        match existence_in(alloc, asked, branch, effort) {
             Ok(told) => answer = first_existence(answer, told),
             Err(fault) => return Err(without(answer, fault)),
         }
         rest = more;
     }
     Ok(answer)
+}
+
+// Behind a sample or a doubt, a refutation in a later branch changes nothing.
+fn effort_for_existence(before: &ExistenceAnswer) -> Effort {
+    match before {
+        ExistenceAnswer::Always => Effort::Refutation,
+        ExistenceAnswer::Missing(_) | ExistenceAnswer::Undecided(_) => Effort::Elimination,
+    }
 }
 
 // Of two answers the first sample, else the first doubt.
@@ -681,13 +695,22 @@ fn uniqueness_in_all(
     let mut answer = UniquenessAnswer::Unique;
     let mut rest = branches;
     while let Some((branch, more)) = rest.split_first() {
-        match uniqueness_in(alloc, asked, branch) {
+        let effort = effort_for_uniqueness(&answer);
+        match uniqueness_in(alloc, asked, branch, effort) {
             Ok(told) => answer = first_uniqueness(answer, told),
             Err(fault) => return Err(without(answer, fault)),
         }
         rest = more;
     }
     Ok(answer)
+}
+
+// Behind two solutions or a doubt, a refutation in a later branch changes nothing.
+fn effort_for_uniqueness(before: &UniquenessAnswer) -> Effort {
+    match before {
+        UniquenessAnswer::Unique => Effort::Refutation,
+        UniquenessAnswer::Two { .. } | UniquenessAnswer::Undecided(_) => Effort::Elimination,
+    }
 }
 
 // Of two answers the first with two solutions, else the first doubt.

@@ -76,11 +76,7 @@ fn push_rows(
 }
 
 // Adds a fact to the end.
-pub(crate) fn push_fact(
-    facts: &mut Vec<Fact>,
-    kind: FactKind,
-    row: Row,
-) -> Result<(), NoMemory>
+pub(crate) fn push_fact(facts: &mut Vec<Fact>, kind: FactKind, row: Row) -> Result<(), NoMemory>
     ensures { facts.new.items ≡ (if is_ok result then facts.old.items ++ fact_as kind row ∷ [] else facts.old.items) }
 {
     match facts.push(Fact { kind, row }) {

@@ -21,7 +21,10 @@ mod used_parameters;
 
 pub use crate::answer::{Doubt, ExistenceAnswer, UniquenessAnswer};
 pub use crate::coverage::{Cover, covers};
-pub use crate::no_outputs::existence;
+pub use crate::no_outputs::{MOST_TUPLES, existence};
+pub use crate::none::{Question, none};
 pub use crate::over::is_over;
+pub use crate::tuples::tuple_count;
+pub use crate::twice::{twice, twice_outputs};
 pub use crate::two_outputs::uniqueness;
 pub use crate::used_parameters::parameters;

@@ -1,0 +1,88 @@
+//! Whether outputs always exist.
+ghost use Rattle.std.specs.Prelude.{◌≡◌, [], true, IfOk};
+ghost use Rattle.cf_tree.specs.RelView.{rel_tree};
+ghost use Rattle.cf_read.specs.Reading.{NeverHolds};
+ghost use Rattle.cf_warn.specs.Missing.{none, none_outputs};
+ghost use Rattle.cf_warn.specs.Questions.{parameters};
+ghost use Rattle.cf_warn.specs.Verdicts.{IsExistence};
+ghost use Rattle.cf_decide.specs.Answers.{HasAlways, SaysExistence};
+
+use crate::effort::Effort;
+use crate::refuting::is_refuted;
+use cf_choose::Solved;
+use cf_tree::{NoMemory, without};
+use cf_warn::{Doubt, ExistenceAnswer, MOST_TUPLES, existence, none, parameters, tuple_count};
+use std::alloc::Global;
+
+/// Whether a choose has outputs for every choice of its parameters: `Always` where it has, `Missing` with a sample of the
+/// parameters for which it has none, or a doubt, which promises nothing.
+///
+/// # Errors
+/// `NoMemory` where memory ran out.
+#[tactic(auto, using(crate::proofs::AnswerLaws::existence_says))]
+pub fn decide_existence(
+    alloc: Global,
+    solved: &Solved,
+    effort: Effort,
+) -> Result<ExistenceAnswer, NoMemory>
+    ensures { IfOk result (SaysExistence solved.now.scope.items solved.now.outputs.items (rel_tree solved.now.rel)) }
+{
+    let answer = existence(alloc, solved)?;
+    match effort {
+        Effort::Elimination => Ok(answer),
+        Effort::Refutation => followed(alloc, solved, answer),
+    }
+}
+
+// The answer; of a doubt what a refutation says, if one is found.
+#[tactic(auto, using(crate::proofs::AnswerLaws::existence_says))]
+fn followed(
+    alloc: Global,
+    solved: &Solved,
+    answer: ExistenceAnswer,
+) -> Result<ExistenceAnswer, NoMemory>
+    requires { IsExistence solved.now.scope.items solved.now.outputs.items (rel_tree solved.now.rel) answer }
+    ensures { IfOk result (SaysExistence solved.now.scope.items solved.now.outputs.items (rel_tree solved.now.rel)) }
+{
+    match answer {
+        ExistenceAnswer::Always => Ok(ExistenceAnswer::Always),
+        ExistenceAnswer::Missing(sample) => Ok(ExistenceAnswer::Missing(sample)),
+        ExistenceAnswer::Undecided(doubt) => always_or(alloc, solved, doubt),
+    }
+}
+
+fn always_or(alloc: Global, solved: &Solved, doubt: Doubt) -> Result<ExistenceAnswer, NoMemory>
+    ensures { IfOk result (SaysExistence solved.now.scope.items solved.now.outputs.items (rel_tree solved.now.rel)) }
+{
+    if always_exist(alloc, solved)? {
+        Ok(ExistenceAnswer::Always)
+    } else {
+        Ok(ExistenceAnswer::Undecided(doubt))
+    }
+}
+
+// Whether a refutation of the question is found. For many tuples of arms it is not written.
+fn always_exist(alloc: Global, solved: &Solved) -> Result<bool, NoMemory>
+    ensures { IfOk result (λ b. b ≡ true → HasAlways solved.now.scope.items solved.now.outputs.items (rel_tree solved.now.rel)) }
+{
+    // for the proof: the choose is solved
+    let _ = solved.outputs();
+    if tuple_count(solved)? > MOST_TUPLES {
+        return Ok(false);
+    }
+    let params = parameters(alloc, solved)?;
+    never_missing(alloc, solved, &params)
+}
+
+// Whether it is found that outputs are never missing.
+fn never_missing(alloc: Global, solved: &Solved, params: &[u32]) -> Result<bool, NoMemory>
+    requires { params.now ≡ parameters solved.now.scope.items (rel_tree solved.now.rel) }
+    ensures { IfOk result (λ b. b ≡ true → NeverHolds [] (none_outputs solved.now.scope.items solved.now.outputs.items (rel_tree solved.now.rel))
+        (none solved.now.scope.items solved.now.outputs.items (rel_tree solved.now.rel))) }
+{
+    // for the proof: the choose is solved
+    let _ = solved.outputs();
+    let question = none(alloc, solved, params)?;
+    let refuted = is_refuted(alloc, &question.outputs, &question.rel);
+    without(question, refuted)
+}
