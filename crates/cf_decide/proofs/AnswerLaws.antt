@@ -1,8 +1,6 @@
 -- What a verdict says by meaning, and what a refuted question does.
-use Rattle.std.proofs.Common.{◌≡◌, ◌++◌, List, [], ℕ, true, All}
-use Rattle.std.specs.Prelude.{Result, Ok, Err, IfOk}
+use Rattle.std.proofs.Common.{◌≡◌, ◌++◌, List, [], ℕ, All, sym, subst}
 use Rattle.cf_tree.specs.declared.base.Base.{Base}
-use Rattle.cf_tree.specs.declared.memory.NoMemory.{NoMemory}
 use Rattle.cf_tree.specs.RelTree.{RelTree}
 use Rattle.cf_tree.specs.Relation.{IsTyped}
 use Rattle.cf_choose.specs.Laws.{IsUnrefused}
@@ -38,3 +36,12 @@ never_missing scope outputs rel u n = record { always = always scope outputs rel
 pub never_two : (scope outputs : List Base) (shown : ℕ) (rel : RelTree) → IsTyped (scope ++ outputs) rel → All IsOutput outputs →
     NeverHolds [] (twice_outputs scope outputs rel) (twice scope outputs shown rel) → HasUnique scope outputs shown rel
 never_two scope outputs shown rel typed are n = record { unique = unique scope outputs shown rel typed are (λ vs s. n.never [] vs tt s.0 s.1) }
+
+-- ---- what is found
+pub says_always : (scope outputs : List Base) (rel : RelTree) (e : ExistenceAnswer) → e ≡ existence.Always → HasAlways scope outputs rel →
+    SaysExistence scope outputs rel e
+says_always scope outputs rel e is h = subst (SaysExistence scope outputs rel) (sym is) h.always
+
+pub says_unique : (scope outputs : List Base) (shown : ℕ) (rel : RelTree) (u : UniquenessAnswer) → u ≡ uniqueness.Unique →
+    HasUnique scope outputs shown rel → SaysUniqueness scope outputs shown rel u
+says_unique scope outputs shown rel u is h = subst (SaysUniqueness scope outputs shown rel) (sym is) h.unique

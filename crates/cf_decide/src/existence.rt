@@ -4,14 +4,13 @@ ghost use Rattle.cf_tree.specs.RelView.{rel_tree};
 ghost use Rattle.cf_read.specs.Reading.{NeverHolds};
 ghost use Rattle.cf_warn.specs.Missing.{none, none_outputs};
 ghost use Rattle.cf_warn.specs.Questions.{parameters};
-ghost use Rattle.cf_warn.specs.Verdicts.{IsExistence};
 ghost use Rattle.cf_decide.specs.Answers.{HasAlways, SaysExistence};
 
 use crate::effort::Effort;
 use crate::refuting::is_refuted;
 use cf_choose::Solved;
 use cf_tree::{NoMemory, without};
-use cf_warn::{Doubt, ExistenceAnswer, MOST_TUPLES, existence, none, parameters, tuple_count};
+use cf_warn::{ExistenceAnswer, MOST_TUPLES, existence, none, parameters, tuple_count};
 use std::alloc::Global;
 
 /// Whether a choose has outputs for every choice of its parameters: `Always` where it has, `Missing` with a sample of the
@@ -19,7 +18,6 @@ use std::alloc::Global;
 ///
 /// # Errors
 /// `NoMemory` where memory ran out.
-#[tactic(auto, using(crate::proofs::AnswerLaws::existence_says))]
 pub fn decide_existence(
     alloc: Global,
     solved: &Solved,
@@ -27,37 +25,52 @@ pub fn decide_existence(
 ) -> Result<ExistenceAnswer, NoMemory>
     ensures { IfOk result (SaysExistence solved.now.scope.items solved.now.outputs.items (rel_tree solved.now.rel)) }
 {
-    let answer = existence(alloc, solved)?;
+    let answer = by_elimination(alloc, solved)?;
+    if !is_followed(effort, &answer) {
+        return Ok(answer);
+    }
+    always_or(alloc, solved, answer)
+}
+
+fn by_elimination(alloc: Global, solved: &Solved) -> Result<ExistenceAnswer, NoMemory>
+    ensures { IfOk result (SaysExistence solved.now.scope.items solved.now.outputs.items (rel_tree solved.now.rel)) }
+{
+    existence(alloc, solved)
+}
+
+// Whether a refutation is to be looked for behind this answer.
+fn is_followed(effort: Effort, answer: &ExistenceAnswer) -> bool {
     match effort {
-        Effort::Elimination => Ok(answer),
-        Effort::Refutation => followed(alloc, solved, answer),
+        Effort::Elimination => false,
+        Effort::Refutation => is_doubt(answer),
     }
 }
 
-// The answer; of a doubt what a refutation says, if one is found.
-#[tactic(auto, using(crate::proofs::AnswerLaws::existence_says))]
-fn followed(
+fn is_doubt(answer: &ExistenceAnswer) -> bool {
+    match answer {
+        ExistenceAnswer::Undecided(_) => true,
+        ExistenceAnswer::Always | ExistenceAnswer::Missing(_) => false,
+    }
+}
+
+// That outputs always exist, if that is found, or else the answer.
+#[tactic(auto, using(crate::proofs::AnswerLaws::says_always))]
+fn always_or(
     alloc: Global,
     solved: &Solved,
     answer: ExistenceAnswer,
 ) -> Result<ExistenceAnswer, NoMemory>
-    requires { IsExistence solved.now.scope.items solved.now.outputs.items (rel_tree solved.now.rel) answer }
+    requires { SaysExistence solved.now.scope.items solved.now.outputs.items (rel_tree solved.now.rel) answer }
     ensures { IfOk result (SaysExistence solved.now.scope.items solved.now.outputs.items (rel_tree solved.now.rel)) }
 {
-    match answer {
-        ExistenceAnswer::Always => Ok(ExistenceAnswer::Always),
-        ExistenceAnswer::Missing(sample) => Ok(ExistenceAnswer::Missing(sample)),
-        ExistenceAnswer::Undecided(doubt) => always_or(alloc, solved, doubt),
-    }
-}
-
-fn always_or(alloc: Global, solved: &Solved, doubt: Doubt) -> Result<ExistenceAnswer, NoMemory>
-    ensures { IfOk result (SaysExistence solved.now.scope.items solved.now.outputs.items (rel_tree solved.now.rel)) }
-{
-    if always_exist(alloc, solved)? {
-        Ok(ExistenceAnswer::Always)
+    let always = match always_exist(alloc, solved) {
+        Ok(always) => always,
+        Err(fault) => return Err(without(answer, fault)),
+    };
+    if always {
+        Ok(without(answer, ExistenceAnswer::Always))
     } else {
-        Ok(ExistenceAnswer::Undecided(doubt))
+        Ok(answer)
     }
 }
 
@@ -67,7 +80,8 @@ fn always_exist(alloc: Global, solved: &Solved) -> Result<bool, NoMemory>
 {
     // for the proof: the choose is solved
     let _ = solved.outputs();
-    if tuple_count(solved)? > MOST_TUPLES {
+    let tuples = tuple_count(solved)?;
+    if tuples > MOST_TUPLES {
         return Ok(false);
     }
     let params = parameters(alloc, solved)?;

@@ -3,14 +3,13 @@ ghost use Rattle.std.specs.Prelude.{◌≡◌, [], true, IfOk};
 ghost use Rattle.cf_tree.specs.RelView.{rel_tree};
 ghost use Rattle.cf_read.specs.Reading.{NeverHolds};
 ghost use Rattle.cf_warn.specs.Questions.{twice, twice_outputs};
-ghost use Rattle.cf_warn.specs.Verdicts.{IsUniqueness};
 ghost use Rattle.cf_decide.specs.Answers.{HasUnique, SaysUniqueness};
 
 use crate::effort::Effort;
 use crate::refuting::is_refuted;
 use cf_choose::Solved;
 use cf_tree::{NoMemory, without};
-use cf_warn::{Doubt, UniquenessAnswer, parameters, twice, twice_outputs, uniqueness};
+use cf_warn::{UniquenessAnswer, parameters, twice, twice_outputs, uniqueness};
 use std::alloc::Global;
 
 /// Whether a choose has two solutions with the same parameters that differ in one of the first so many outputs, which are
@@ -18,7 +17,6 @@ use std::alloc::Global;
 ///
 /// # Errors
 /// `NoMemory` where memory ran out.
-#[tactic(auto, using(crate::proofs::AnswerLaws::uniqueness_says))]
 pub fn decide_uniqueness(
     alloc: Global,
     solved: &Solved,
@@ -27,51 +25,57 @@ pub fn decide_uniqueness(
 ) -> Result<UniquenessAnswer, NoMemory>
     ensures { IfOk result (SaysUniqueness solved.now.scope.items solved.now.outputs.items shown (rel_tree solved.now.rel)) }
 {
-    let answer = uniqueness(alloc, solved, shown)?;
+    let answer = by_elimination(alloc, solved, shown)?;
+    if !is_followed(effort, &answer) {
+        return Ok(answer);
+    }
+    unique_or(alloc, solved, shown, answer)
+}
+
+fn by_elimination(
+    alloc: Global,
+    solved: &Solved,
+    shown: usize,
+) -> Result<UniquenessAnswer, NoMemory>
+    ensures { IfOk result (SaysUniqueness solved.now.scope.items solved.now.outputs.items shown (rel_tree solved.now.rel)) }
+{
+    uniqueness(alloc, solved, shown)
+}
+
+// Whether a refutation is to be looked for behind this answer.
+fn is_followed(effort: Effort, answer: &UniquenessAnswer) -> bool {
     match effort {
-        Effort::Elimination => Ok(answer),
-        Effort::Refutation => followed(alloc, solved, shown, answer),
+        Effort::Elimination => false,
+        Effort::Refutation => is_doubt(answer),
     }
 }
 
-// The answer; of a doubt what a refutation says, if one is found.
-#[tactic(auto, using(crate::proofs::AnswerLaws::uniqueness_says))]
-fn followed(
+fn is_doubt(answer: &UniquenessAnswer) -> bool {
+    match answer {
+        UniquenessAnswer::Undecided(_) => true,
+        UniquenessAnswer::Unique | UniquenessAnswer::Two { .. } => false,
+    }
+}
+
+// That outputs are the only ones, if that is found, or else the answer.
+#[tactic(auto, using(crate::proofs::AnswerLaws::says_unique))]
+fn unique_or(
     alloc: Global,
     solved: &Solved,
     shown: usize,
     answer: UniquenessAnswer,
 ) -> Result<UniquenessAnswer, NoMemory>
-    requires { IsUniqueness solved.now.scope.items solved.now.outputs.items shown (rel_tree solved.now.rel) answer }
+    requires { SaysUniqueness solved.now.scope.items solved.now.outputs.items shown (rel_tree solved.now.rel) answer }
     ensures { IfOk result (SaysUniqueness solved.now.scope.items solved.now.outputs.items shown (rel_tree solved.now.rel)) }
 {
-    match answer {
-        UniquenessAnswer::Unique => Ok(UniquenessAnswer::Unique),
-        UniquenessAnswer::Two {
-            sample,
-            first,
-            second,
-        } => Ok(UniquenessAnswer::Two {
-            sample,
-            first,
-            second,
-        }),
-        UniquenessAnswer::Undecided(doubt) => unique_or(alloc, solved, shown, doubt),
-    }
-}
-
-fn unique_or(
-    alloc: Global,
-    solved: &Solved,
-    shown: usize,
-    doubt: Doubt,
-) -> Result<UniquenessAnswer, NoMemory>
-    ensures { IfOk result (SaysUniqueness solved.now.scope.items solved.now.outputs.items shown (rel_tree solved.now.rel)) }
-{
-    if are_unique(alloc, solved, shown)? {
-        Ok(UniquenessAnswer::Unique)
+    let unique = match are_unique(alloc, solved, shown) {
+        Ok(unique) => unique,
+        Err(fault) => return Err(without(answer, fault)),
+    };
+    if unique {
+        Ok(without(answer, UniquenessAnswer::Unique))
     } else {
-        Ok(UniquenessAnswer::Undecided(doubt))
+        Ok(answer)
     }
 }
 
