@@ -1,15 +1,15 @@
 -- Where a formula holds, its problem has a solution.
-use Rattle.std.proofs.Common.{◌≡◌, ℕ, suc, ◌+◌, ◌<◌, ◌≤◌, ◌==◌, ◌⊎◌, inl, inr, ⊎_elim, pos, Bool, true, false, List, [], ◌∷◌, ◌++◌, length, get_or, refl, sym, ◌∙◌, ap, subst, arith, append_assoc, All}
+use Rattle.std.proofs.Common.{◌≡◌, ℕ, ◌+◌, ◌<◌, ◌==◌, ◌⊎◌, inl, inr, ⊎_elim, pos, Bool, true, false, List, [], ◌∷◌, ◌++◌, length, get_or, refl, sym, ◌∙◌, ap, subst, arith, append_assoc}
 use Rattle.std.specs.Prelude.{◌||◌}
 use Rattle.std.proofs.Math.Seq.{get_or-append_seam}
-use Rattle.std.proofs.lemmas.Bool.{eqb-true, eqb-false, eq-eqb}
+use Rattle.std.proofs.lemmas.Bool.{eqb-true, eq-eqb}
 use Rattle.std.proofs.lemmas.List.{append-nil, get_or_append_left, length-append}
 use Rattle.std.proofs.lemmas.List.Elements.{All-push, All-weaker}
 use Rattle.cf_linear.specs.Rows.{Values, Row}
 use Rattle.cf_close.specs.declared.fact.FactKind.{FactKind}
 use Rattle.cf_close.specs.declared.fact.FactKind.TheVariants.{Equation, Inequality}
 use Rattle.cf_close.specs.Facts.{FactHolds}
-use Rattle.cf_close.specs.Problems.{Conjunction, Problem, Marks, OrHolds, ConjunctionHolds, MarkedHold, HasNone}
+use Rattle.cf_close.specs.Problems.{Conjunction, Marks, OrHolds, ConjunctionHolds, MarkedHold, HasNone}
 use Rattle.cf_close.proofs.NodeLemmas.{All-none}
 use Rattle.cf_formula.specs.Formulas.{Formula, always, never, at_least, equal, both, either, Holds}
 use Rattle.cf_read.specs.Systems.{fact_as}
@@ -253,7 +253,7 @@ module _ (v : Values) where
         either_branched v f g m b held h (branch_reads f m b held) (branch_reads g m (with_branch f b))
 
 -- ---- the problem
-no_marks : Marks
+abbrev no_marks : Marks
 no_marks i = false
 
 nothing_held : (v : Values) → AreHeld v no_marks []

@@ -21,7 +21,7 @@ use Rattle.cf_formula.proofs.FirstLaws.{relation-agrees, written_are}
 use Rattle.cf_formula.proofs.WritingLaws.{still_one}
 use Rattle.cf_read.specs.declared.reading.RelationProblem.{RelationProblem}
 use Rattle.cf_read.specs.FormulaProblems.{problem_of_formula}
-use Rattle.cf_read.specs.Reading.{NeverHolds}
+use Rattle.cf_read.specs.Reading.{HasColumns, NeverHolds}
 use Rattle.cf_read.proofs.FormulaLaws.{formula_solved}
 
 -- ---- columns
@@ -32,6 +32,9 @@ columns_low l few h =
   where
     low : (a b i j : ℕ) → (a < LEVEL_LIMIT) × (b < LEVEL_LIMIT) → i ≤ 64 → j ≤ 64 → a + i + b + j - 1 < 2 ^ 32
     low a b i j h x y = let u = h.0 in let w = h.1 in omega arith
+
+pub columns_are : (l : Layout) → set_count l ≤ MOST_SETS → first_free l < 2 ^ 32 → HasColumns l
+columns_are l few low = record { sets = few; room = low }
 
 -- ---- the law
 module _ (scope outputs : List Base) (rel : RelTree) (typed : IsTyped (scope ++ outputs) rel) (linear : IsLinear rel) where

@@ -67,6 +67,7 @@ fn whole_problem(alloc: Global, written: Written) -> Result<RelationProblem, Cho
 }
 
 // Whether the relation has few sets, and its columns have numbers.
+#[tactic(auto, using(crate::proofs::WholeLaws::columns_are))]
 fn check_columns(layout: &Layout) -> Result<(), ChooseFault>
     ensures { IfOk result (λ _. HasColumns (plain_layout layout.now)) }
 {
