@@ -1,5 +1,5 @@
 //! Whether a question is refuted.
-ghost use Rattle.std.specs.Prelude.{◌≡◌, [], true, false, IfOk};
+ghost use Rattle.std.specs.Prelude.{◌≡◌, [], true, Ok, IfOk};
 ghost use Rattle.cf_tree.specs.RelView.{rel_tree};
 ghost use Rattle.cf_tree.specs.Relation.{IsTyped, IsLinear};
 ghost use Rattle.cf_guide.specs.declared.guide.Outcome.TheVariants.{Closed};
@@ -23,27 +23,18 @@ pub(crate) fn is_refuted(alloc: Global, bases: &[Base], rel: &Rel) -> Result<boo
     if bases.len() > MOST_VARIABLES {
         return Ok(false);
     }
-    match refute(alloc, &[], bases, rel, Limits::second()) {
-        Ok(outcome) => Ok(is_closed(outcome)),
-        Err(fault) => unread(fault),
-    }
+    let found = refute(alloc, &[], bases, rel, Limits::second());
+    is_closed(found)
 }
 
-fn is_closed(outcome: Outcome) -> bool
-    ensures { result ≡ true → outcome ≡ Closed }
+// Whether the search closed the question. Of one that is not read nothing is found.
+fn is_closed(found: Result<Outcome, ChooseFault>) -> Result<bool, NoMemory>
+    ensures { IfOk result (λ b. b ≡ true → found ≡ Ok Closed) }
 {
-    match outcome {
-        Outcome::Closed => true,
-        Outcome::Open(_) => false,
-    }
-}
-
-// Of a question that is not read nothing is found.
-fn unread(fault: ChooseFault) -> Result<bool, NoMemory>
-    ensures { IfOk result (λ b. b ≡ false) }
-{
-    match fault {
-        ChooseFault::Refused(_) => Ok(false),
-        ChooseFault::NoMemory => Err(NoMemory),
+    match found {
+        Ok(Outcome::Closed) => Ok(true),
+        Ok(Outcome::Open(_)) => Ok(false),
+        Err(ChooseFault::Refused(_)) => Ok(false),
+        Err(ChooseFault::NoMemory) => Err(NoMemory),
     }
 }
