@@ -13,7 +13,7 @@ use Rattle.cf_close.specs.Problems.{Conjunction, Marks, OrHolds, ConjunctionHold
 use Rattle.cf_close.proofs.NodeLemmas.{All-none}
 use Rattle.cf_formula.specs.Formulas.{Formula, always, never, at_least, equal, both, either, Holds}
 use Rattle.cf_read.specs.Systems.{fact_as}
-use Rattle.cf_read.specs.FormulaProblems.{Reading, Branches, no_facts, with_row, with_or, branched, begun, with_branches, with_formula, with_branch, problem_of_formula, read_so, branches}
+use Rattle.cf_read.specs.FormulaProblems.{Reading, Branches, no_facts, with_row, with_or, branched, begun, with_branches, with_formula, with_branch, problem_of_formula, read_so}
 
 -- ---- what is made stays
 pub record Longer {A : Type 0} (old new : List A) : Type 0 where
@@ -269,12 +269,3 @@ formula_solved f v one h none =
       root = mark_there (length r.made) q.marks;
       marked = (held_with v q.marks r.made r.next q.held q.says).marked;
     })
-
--- ---- the code
-pub either_said : (f g : Formula) (m0 m1 m2 : List Conjunction) (p0 p1 p2 : List ℕ) (c d : Conjunction) → p0 ≡ [] →
-    branches m1 p1 ≡ with_branch f (branches m0 p0) → branches m2 p2 ≡ with_branch g (branches m1 p1) → d ≡ with_or p2 c →
-    read_so m2 d ≡ with_formula (either f g) (read_so m0 c)
-either_said f g m0 m1 m2 p0 p1 p2 c d e h k i =
-    let b : Branches = record { made = m0; places = [] } in
-    let two : branches m2 p2 ≡ with_branch g (with_branch f b) = k ∙ ap (with_branch g) (h ∙ ap (λ ps. with_branch f (branches m0 ps)) e) in
-    ap (read_so m2) i ∙ ap (with_branches c) two

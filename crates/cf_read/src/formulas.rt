@@ -55,6 +55,7 @@ impl Saying {
 ///
 /// # Errors
 /// `NoMemory` where memory ran out.
+#[tactic(auto, using(crate::proofs::FormulaCode::problem_made))]
 pub(crate) fn problem_of_formula(alloc: Global, formula: &Formula) -> Result<Problem, NoMemory>
     ensures { IfOk result (λ p. p ≡ problem_of_formula (formula_tree formula.now)) }
 {
@@ -65,6 +66,7 @@ pub(crate) fn problem_of_formula(alloc: Global, formula: &Formula) -> Result<Pro
 }
 
 // The problem whether this is so, where these conjunctions are made.
+#[tactic(auto, using(crate::proofs::FormulaCode::problem_asked))]
 fn asked(made: Vec<Conjunction>, saying: Saying) -> Result<Problem, NoMemory>
     ensures { IfOk result (λ p. p ≡ asked (reading made.items saying)) }
 {
@@ -76,6 +78,7 @@ fn asked(made: Vec<Conjunction>, saying: Saying) -> Result<Problem, NoMemory>
 
 // Says the formula too. Its branches are made behind the other conjunctions.
 #[cycle(say)]
+#[tactic(auto, using(crate::proofs::FormulaCode::never_said, crate::proofs::FormulaCode::at_least_said, crate::proofs::FormulaCode::equal_said, crate::proofs::FormulaCode::both_said, crate::proofs::FormulaCode::either_said))]
 fn say(
     alloc: Global,
     formula: &Formula,
@@ -115,6 +118,7 @@ fn say(
 
 // Makes branches of the formula: an or is one by one, and what never holds is none.
 #[cycle(say)]
+#[tactic(auto, using(crate::proofs::FormulaCode::either_branched))]
 fn branch(
     alloc: Global,
     formula: &Formula,
@@ -138,6 +142,7 @@ fn branch(
 
 // Makes the formula a branch.
 #[cycle(say)]
+#[tactic(auto, using(crate::proofs::FormulaCode::one_branched))]
 fn one_branch(
     alloc: Global,
     formula: &Formula,
@@ -153,6 +158,7 @@ fn one_branch(
 }
 
 // Puts the conjunction behind the others, as a branch.
+#[tactic(auto, using(crate::proofs::FormulaCode::branch_ended))]
 fn end_branch(
     saying: Saying,
     made: &mut Vec<Conjunction>,
