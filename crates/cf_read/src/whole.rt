@@ -25,7 +25,6 @@ use std::alloc::Global;
 ///
 /// # Errors
 /// `Refused` where the relation has too many sets or a number in its rows passes the limit, `NoMemory` where memory ran out.
-#[tactic(auto, using(crate::proofs::WholeLaws::read_from))]
 pub fn read_whole(
     alloc: Global,
     scope: &[Base],
