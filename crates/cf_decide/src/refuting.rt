@@ -1,5 +1,5 @@
 //! Whether a question is refuted.
-ghost use Rattle.std.specs.Prelude.{◌≡◌, [], true, Ok, IfOk};
+ghost use Rattle.std.specs.Prelude.{◌≡◌, [], true, IfOk};
 ghost use Rattle.cf_tree.specs.RelView.{rel_tree};
 ghost use Rattle.cf_tree.specs.Relation.{IsTyped, IsLinear};
 ghost use Rattle.cf_guide.specs.declared.guide.Outcome.TheVariants.{Closed};

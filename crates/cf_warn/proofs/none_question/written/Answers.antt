@@ -7,7 +7,7 @@ use Rattle.cf_linear.specs.Views.{plain_layout}
 use Rattle.cf_choose.specs.Laws.{IsUnrefused}
 use Rattle.cf_warn.proofs.CaseNeeds.{sets_few}
 use Rattle.cf_warn.proofs.QuestionLaws.{said_all}
-use Rattle.cf_warn.proofs.none.written.Goals as goal
+use Rattle.cf_warn.proofs.none_question.written.Goals as goal
 
 pub first_forms-requires : goal.first_forms-requires
 first_forms-requires c =
