@@ -1,5 +1,5 @@
 -- Answers by meaning: x == a is solved for each a, once; 2 * x == a is not.
-use Rattle.std.proofs.Common.{◌≡◌, pos, [], ◌∷◌, refl}
+use Rattle.std.proofs.Common.{[], ◌∷◌}
 use Rattle.cf_tree.specs.declared.base.Base.TheVariants.{Int}
 use Rattle.cf_tree.specs.declared.base.Order.TheVariants.{Eq}
 use Rattle.cf_tree.specs.RelTree.{RelTree, term_var, rel_compare}
