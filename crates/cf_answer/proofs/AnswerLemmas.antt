@@ -205,7 +205,7 @@ written_not (Ok done) is = record { not_usage = λ e. cc; not_file = λ e. cc; n
 written_not (Err f) is =
     record { not_usage = not_usage_of f (out_other f is); not_file = not_file_of f (out_other f is); not_input = out_input f is }
 
-late_fault : (f : Fault) → IsOutFault f → IsEarly (fault_status f) → ⊥
+pub late_fault : (f : Fault) → IsOutFault f → IsEarly (fault_status f) → ⊥
 late_fault f (inl e) h = subst (λ v. IsEarly (fault_status v)) e h
 late_fault f (inr e) h = subst (λ v. IsEarly (fault_status v)) e h
 
@@ -323,6 +323,36 @@ unmet_answers c given last files printed bytes input old new f unmet e unlimited
       not_usage = not_usage_of f (still_other f still);
       not_file = not_file_of f (still_other f still);
     }
+
+-- a prefix of it was written, by a command whose output has no limit
+part_answers : (c : Command) (given last : List Told) (files : List (List ℕ)) (printed bytes : List ℕ) (input : SourceSeen) (old new : SinkSeen) (f : Fault) →
+    reads_input c ≡ false → ((edition : Edition) → output_most c edition ≡ None) → ArePassed (calls_passes c) given last →
+    Owes c files given last [] printed → bytes ≡ printed ++ closing c last → TookPrefix old.held new.held bytes → IsOutFault f →
+    Counts (failed f ≡ Err fault.Output) old.faults new.faults → AnswersOn c given last files (streams input old) (streams input new) (Err f)
+part_answers c given last files printed bytes input old new f e unlimited p owed is some fault count =
+    let job : Job = record { command = c; files = files; given = given; passes = last } in
+    let fits = subst (λ most. IsWithin most (length (printed ++ closing c last))) (sym (unlimited (edition_for files))) tt in
+    let some_is = subst (TookPrefix old.held new.held) is some in
+    let never = written_not (Err f) fault in record {
+      passed = p;
+      spared = λ g r. absurd (owed_accepted c files given last [] printed owed g r);
+      ends = out_ends job (streams input old) (streams input new) f fault
+          (wrote_prefix job (streams input old) (streams input new) printed e refl owed fits some_is);
+      sparing = nothing_read (input_most files) input;
+      input = no_fault input.faults input.faults never.not_input refl;
+      out = count;
+      not_usage = never.not_usage;
+      not_file = never.not_file;
+    }
+
+-- how `check` ends where `out` took a prefix of its lines
+pub part_checked : (strictness : Strictness) (file : List ℕ) (given : List Told) (source printed : List ℕ) (a : Answered) (input : SourceSeen)
+    (old new : SinkSeen) (f : Fault) → AreSourceChecks source printed a → TookPrefix old.held new.held printed → IsOutFault f →
+    Counts (failed f ≡ Err fault.Output) old.faults new.faults →
+    AnswersOn (check strictness file) given given (source ∷ []) (streams input old) (streams input new) (Err f)
+part_checked strictness file given source printed a input old new f checks some fault count =
+    part_answers (check strictness file) given given (source ∷ []) printed printed input old new f refl (λ edition. refl) refl (a, checks)
+    (sym (append-nil printed)) some fault count
 
 -- how `check` ends where all its lines were written
 module _ (strictness : Strictness) (file : List ℕ) (given : List Told) (source printed : List ℕ) (a : Answered) (input : SourceSeen) (old new : SinkSeen)
@@ -465,7 +495,7 @@ through_ends job before after who end answer by is (whole mid r e took) =
       r.runs.1,
       wrote_by job before after Appends r.front (lines r.front) (closing job.command job.passes) text who by r.read r.runs.2.1
           (Appends-trans before.out.held mid after.out.held text (closing job.command job.passes) r.runs.2.2 (subst (Appends mid after.out.held) is took)),
-      reads_done job.command job.files text by.reads,
+      reads_done job.command job.files _ by.reads,
     )
 
 runs_other : (who : Replier) (most : Option ℕ) (left still_left old new : Option (List ℕ)) (f : Fault) → RunsOn who most left still_left old new (Err f) →

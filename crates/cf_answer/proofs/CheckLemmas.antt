@@ -1,6 +1,6 @@
 -- The lines of a choose, by what its number is of.
 use Rattle.std.proofs.Common.{◌≡◌, ◌<◌, ◌≤◌, ◌+◌, ◌∙◌, ap, sym, subst, refl, ℕ, Bool, true, false, List, [], ◌∷◌, ◌++◌, length, map, drop, drop_of_length-le, get_or, append_assoc, append-nil, arith, if◌then◌else◌, ◌==◌}
-use Rattle.std.specs.Prelude.{Contains, All, Some, None}
+use Rattle.std.specs.Prelude.{Contains, All, Option, Some, None}
 use Rattle.std.specs.List.Sorted.{IsPermutation}
 use Rattle.std.proofs.lemmas.List.Elements.{All-head, All-tail}
 use Rattle.std.proofs.lemmas.List.Sorted.{Contains-permutation, IsPermutation-sym}
@@ -104,16 +104,19 @@ module _ (s : SolvedChoose) (c : ToldChoose) (old mid new levels : List ℕ) (ar
       )
 
 -- the conditions of a choose that is told of
-conditions_of : (told : List ToldChoose) (n : ℕ) (c : ToldChoose) → told_of told n ≡ Some c → HoldConditions told → All HoldsCondition c.branches
-conditions_of [] n c is h = cc is
-conditions_of (d ∷ told) n c is h = go (d.number == n) is
-  where
-    some_same : (x y : ToldChoose) → Some x ≡ Some y → x ≡ y
-    some_same x y e = cc e
+some_same : (x y : ToldChoose) → Some x ≡ Some y → x ≡ y
+some_same x y e = cc e
 
-    go : (b : Bool) → (if b then Some d else told_of told n) ≡ Some c → All HoldsCondition c.branches
-    go true e = subst (λ x. All HoldsCondition x.branches) (some_same d c e) (All-head (λ x. All HoldsCondition x.branches) d told h)
-    go false e = conditions_of told n c e (All-tail (λ x. All HoldsCondition x.branches) d told h)
+one_of_two : (P : ToldChoose → Type 0) (b : Bool) (d c : ToldChoose) (more : Option ToldChoose) → (if b then Some d else more) ≡ Some c → P d →
+    (more ≡ Some c → P c) → P c
+one_of_two P true d c more is here later = subst P (some_same d c is) here
+one_of_two P false d c more is here later = later is
+
+conditions_of : (told : List ToldChoose) (n : ℕ) (c : ToldChoose) → told_of told n ≡ Some c → HoldConditions told → All HoldsCondition c.branches
+conditions_of [] n c is h = absurd (cc)
+conditions_of (d ∷ told) n c is h =
+    one_of_two (λ x. All HoldsCondition x.branches) (d.number == n) d c (told_of told n) is (All-head (λ x. All HoldsCondition x.branches) d told h)
+    (λ e. conditions_of told n c e (All-tail (λ x. All HoldsCondition x.branches) d told h))
 
 -- ---- what verdicts on questions say of an arm and of a match
 classes_told : (classes : List Class) (c : Cover) → IsCover classes c → TellsClasses classes c
@@ -193,6 +196,15 @@ plus_assoc a b c = omega arith
 unmet_alone : (u : Unmet) → with_unmet u nothing_unmet ≡ u
 unmet_alone u = λ i. record { no = no_more u.no i; undecided = no_more u.undecided i }
 
+none_before : (n : ℕ) → 0 + n ≡ n
+none_before n = omega arith
+
+unmet_behind : (u : Unmet) → with_unmet nothing_unmet u ≡ u
+unmet_behind u = λ i. record { no = none_before u.no i; undecided = none_before u.undecided i }
+
+behind_nothing : (a : Answered) → with_answered nothing_answered a ≡ a
+behind_nothing a = λ i. answered (unmet_behind a.existence i) (unmet_behind a.uniqueness i)
+
 alone : (a : Answered) → with_answered a nothing_answered ≡ a
 alone a = λ i. answered (unmet_alone a.existence i) (unmet_alone a.uniqueness i)
 
@@ -217,7 +229,8 @@ module _ (edition : Edition) (matches : List MatchTree) (told : List ToldChoose)
     qs,
     h,
     λ more there w. subst (λ t. AreChecksBehind edition matches told 0 qs (t ++ more) (with_answered a there)) (sym is)
-        (subst (λ b. AreChecksBehind edition matches told 0 qs more (with_answered b there)) (sym none) w),
+        (subst (λ b. AreChecksBehind edition matches told 0 qs more (with_answered b there)) (sym none)
+        (subst (AreChecksBehind edition matches told 0 qs more) (sym (behind_nothing there)) w)),
   )
 
   walk_next : (before : ℕ) (s : SolvedChoose) (ss : List SolvedChoose) (text new : List ℕ) (a here : Answered) →

@@ -6,6 +6,7 @@ mod BlockExamples
 pub mod BlockLemmas
 mod BranchExamples
 pub mod BranchLemmas
+pub mod BranchTellLemmas
 pub mod CauseLemmas
 mod CertificateExamples
 pub mod CertificateLemmas
@@ -22,6 +23,7 @@ pub mod FileLemmas
 mod FormExamples
 pub mod FormedLemmas
 pub mod HeadLemmas
+pub mod HoldingLemmas
 mod LateExamples
 pub mod LateLemmas
 mod LimitExamples
@@ -30,6 +32,7 @@ pub mod LoweredLemmas
 pub mod MatchClassLemmas
 mod NameExamples
 pub mod NameLemmas
+pub mod NamedLemmas
 pub mod OriginLemmas
 pub mod OutcomeLemmas
 mod OutsideExamples

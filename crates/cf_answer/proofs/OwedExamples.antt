@@ -70,8 +70,8 @@ module _ (form : ReplyForm) (written : Form) (name other source steps : List ℕ
   of-pre = (λ h. h, λ h. h)
 
   of-check : Same (Owes (check strictness.Told name) (source ∷ []) given last ls text)
-      ((a : Answered) × (told : List ToldChoose) × AreToldOf source told × (typed : TypedTree) × IsTypedSource source typed
-      × AreChecks (edition_of source) told typed text a)
+      ((a : Answered) × ((told : List ToldChoose) × AreToldOf source told × (typed : TypedTree) × IsTypedSource source typed
+      × AreChecks (edition_of source) told typed text a))
   of-check = (λ h. h, λ h. h)
 
   -- a strict check owes the same text

@@ -37,7 +37,7 @@ owed_accepted (compile flags name) (file ∷ []) given passes ls text h =
 owed_accepted (run flags form name) (file ∷ []) given passes ls text h =
     λ f r. run_unrefused (not flags.plain) (form_of form h.0) file given passes ls text f h.2 r
 owed_accepted (pre name) (file ∷ []) given passes ls text h = λ f r. pres_unrefused file h.0 text f h.1 h.2 r
-owed_accepted (check strictness name) (file ∷ []) given passes ls text h = λ f r. checks_unrefused file h.1 h.3 text h.0 f h.4 h.5 r
+owed_accepted (check strictness name) (file ∷ []) given passes ls text h = λ f r. checks_unrefused file h.1.0 h.1.2 text h.0 f h.1.3 h.1.4 r
 owed_accepted (exec form name) (file ∷ []) given passes ls text h = λ f r. typed_unrefused file (target_tree h.0) f h.1 r
 owed_accepted (prove name) (file ∷ []) given passes ls text h = λ f r. proofs_unrefused file h.0 text f h.1 h.2 r
 owed_accepted (verify name other) (source ∷ steps ∷ []) given passes ls text h = λ f r. verify_unrefused source steps h.0 f h.1 h.2 r

@@ -26,7 +26,7 @@ unfolding text_limit written_limit
 small_file Compile flags form file n h = omega (arith, h)
 small_file Run flags form file n h = omega (arith, h)
 small_file Pre flags form file n h = omega (arith, h)
-small_file Check flags form file n h = omega (arith, h)
+small_file (Check strictness) flags form file n h = omega (arith, h)
 small_file Exec flags form file n h = omega (arith, h)
 small_file Prove flags form file n h = omega (arith, h)
 

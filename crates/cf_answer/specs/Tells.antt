@@ -1,13 +1,13 @@
 -- What the answers of `check` on a choose of edition 3 say, by what its condition and its relation mean. Nothing is said of how an answer is found, and an
 -- undecided one promises nothing.
-use Rattle.std.specs.Prelude.{ℕ, ℤ, ◌≡◌, ◌≢◌, ◌<◌, ◌&&◌, ⊤, Bool, true, not, Option, Some, None, List, [], ◌∷◌, length, map, All, Any}
+use Rattle.std.specs.Prelude.{ℕ, ℤ, ◌≡◌, ◌≢◌, ◌<◌, ◌&&◌, ⊤, Bool, true, false, not, Option, Some, None, List, [], ◌∷◌, length, map, All, Any}
 use Rattle.cf_tree.specs.declared.base.Base.{Base}
 use Rattle.cf_tree.specs.declared.base.Edition.{Edition}
 use Rattle.cf_tree.specs.declared.base.Edition.TheVariants.{Two, Three}
 use Rattle.cf_tree.specs.Occurs.{rel_holds}
 use Rattle.cf_tree.specs.Relation.{Sol, IsTyped}
 use Rattle.cf_tree.specs.RelTree.{RelTree}
-use Rattle.cf_tree.specs.Values.{Value, truth, value_at, HaveBases}
+use Rattle.cf_tree.specs.Values.{Value, truth, value_at, same_value, HaveBases}
 use Rattle.cf_eval.specs.Seen.{plains}
 use Rattle.cf_form.specs.Branches.{Branch, is_among, is_truth as is_truth_base, values_in}
 use Rattle.cf_form.specs.Told.{Allows, ToldBranch}
@@ -113,6 +113,13 @@ TellsCover Three classes c = TellsClasses classes c
 abbrev pub IsCondition : List Base → Option RelTree → Type 0
 IsCondition scope None = ⊤
 IsCondition scope (Some p) = IsTyped scope p
+
+-- whether two lists have the same values
+abbrev pub same_values : List Value → List Value → Bool
+same_values [] [] = true
+same_values [] (w ∷ ws) = false
+same_values (v ∷ vs) [] = false
+same_values (v ∷ vs) (w ∷ ws) = same_value v w && same_values vs ws
 
 -- the two of an answer differ, if it tells two
 abbrev pub IsOfTwo : UniquenessAnswer → Type 0

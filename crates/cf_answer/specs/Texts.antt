@@ -76,12 +76,15 @@ abbrev pub rejected_line : ℕ → ℕ → ℕ → Why → List ℕ
 rejected_line n i j w =
     concat (codes "choose " ∷ decimal n ∷ codes ": rejected at case " ∷ decimal i ∷ codes " step " ∷ decimal j ∷ codes ": " ∷ why_text w ∷ codes "\n" ∷ [])
 
+abbrev pub answered_line : List ℕ → List ℕ → List ℕ → List ℕ
+answered_line count verb so = concat (codes "check: " ∷ count ∷ verb ∷ so ∷ codes "\n" ∷ [])
+
 -- check: N answers are so
 abbrev pub answers_verb : ℕ → List ℕ
 answers_verb n = if n == 1 then codes " answer is " else codes " answers are "
 
 abbrev pub answers_line : ℕ → List ℕ → List ℕ
-answers_line n so = concat (codes "check: " ∷ decimal n ∷ answers_verb n ∷ so ∷ codes "\n" ∷ [])
+answers_line n so = answered_line (decimal n) (answers_verb n) so
 
 -- where the words are no command
 abbrev pub usage_words : List ℕ

@@ -54,7 +54,7 @@ use std::alloc::Global;
 
 // The lines of a source, and what they answer.
 #[derive(Drop)]
-struct Checks {
+struct AnsweredText {
     text: Vec<u8>,
     answered: Answered,
 }
@@ -295,7 +295,7 @@ fn check_each(
     matches: &Matches<'_>,
     told: &[ChooseInfo],
     chooses: &[SolvedChoose<'_>],
-) -> Result<Checks, NoMemory>
+) -> Result<AnsweredText, NoMemory>
     requires { AreMatches matches.now.infos.now matches.now.arms.now }
     ensures { IfOk result (λ c. (edition : TheEdition) (qs : List ChooseTree) → AreSolved qs chooses.now → HoldConditions (map told_choose told.now) →
         AreChecksBehind edition (map match_tree matches.now.infos.now) (map told_choose told.now) 0 qs c.text.items c.answered) }
@@ -308,7 +308,7 @@ fn check_each(
         answered = with_answered(&answered, &more)?;
         before = choose.choose.number;
     }
-    Ok(Checks { text, answered })
+    Ok(AnsweredText { text, answered })
 }
 
 // The lines of solved chooses in order, in a program that was made of one with these matches.
@@ -317,7 +317,7 @@ fn lines(
     infos: &[MatchInfo],
     told: &[ChooseInfo],
     chooses: &[SolvedChoose<'_>],
-) -> Result<Checks, NoMemory>
+) -> Result<AnsweredText, NoMemory>
     requires order { IsNonDecreasingBy (λ m. m.number) infos.now }
     requires classes { All (λ m. AreClasses m.classes.items) infos.now }
     ensures { IfOk result (λ c. (edition : TheEdition) (qs : List ChooseTree) → AreSolved qs chooses.now → HoldConditions (map told_choose told.now) →
@@ -329,7 +329,7 @@ fn lines(
 
 // The lines of the chooses and matches of a program in the order of their numbers, where this is told of
 // its chooses, or the choose for which it is refused.
-fn checks(alloc: Global, lowered: &Lowered, told: &[ChooseInfo]) -> Result<Checks, Fault>
+fn checks(alloc: Global, lowered: &Lowered, told: &[ChooseInfo]) -> Result<AnsweredText, Fault>
     requires { All (λ m. AreClasses m.classes.items) lowered.now.matches.items }
     ensures { (edition : TheEdition) (source : List ℕ) (s : IsLoweredSource source lowered.now) → HoldConditions (map told_choose told.now) →
         IsVerdict (λ c. AreChecks edition (map told_choose told.now) s.typed c.text.items c.answered) (IsRefusedSource source) result }
@@ -340,7 +340,7 @@ fn checks(alloc: Global, lowered: &Lowered, told: &[ChooseInfo]) -> Result<Check
 }
 
 // The lines of a source of language 2, of whose chooses nothing is told.
-fn checks_in_two(alloc: Global, text: &[u8]) -> Result<Checks, Fault>
+fn checks_in_two(alloc: Global, text: &[u8]) -> Result<AnsweredText, Fault>
     requires short { length text.now ≤ text_limit }
     requires place { length text.now < 2 ^ 32 - 1 }
     requires edition { the_edition_of text.now ≡ Two }
@@ -352,7 +352,7 @@ fn checks_in_two(alloc: Global, text: &[u8]) -> Result<Checks, Fault>
 }
 
 // The lines of a source of edition 3.
-fn checks_in_three(alloc: Global, text: &[u8]) -> Result<Checks, Fault>
+fn checks_in_three(alloc: Global, text: &[u8]) -> Result<AnsweredText, Fault>
     requires short { length text.now ≤ text_limit }
     requires place { length text.now < 2 ^ 32 - 1 }
     requires edition { the_edition_of text.now ≡ Three }
@@ -367,7 +367,7 @@ fn checks_in_three(alloc: Global, text: &[u8]) -> Result<Checks, Fault>
     Ok(checks)
 }
 
-fn checks_of(alloc: Global, text: &[u8]) -> Result<Checks, Fault>
+fn checks_of(alloc: Global, text: &[u8]) -> Result<AnsweredText, Fault>
     requires short { length text.now ≤ text_limit }
     requires place { length text.now < 2 ^ 32 - 1 }
     ensures { IsVerdict (λ c. AreSourceChecks text.now c.text.items c.answered) (IsRefusedSource text.now) result }

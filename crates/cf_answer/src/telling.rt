@@ -4,7 +4,7 @@ ghost use Rattle.std.specs.Io.KnownBytes.{Appends};
 ghost use Rattle.cf_io.specs.Bytes.{TookPrefix};
 ghost use Rattle.cf_io.specs.Causes.{one_more};
 ghost use Rattle.cf_answer.specs.Lines.{line_text, Puts};
-ghost use Rattle.cf_answer.specs.Texts.{answers_line, answers_verb as the_answers_verb, place_line, place_line_behind, count_line, choose_line, rule_line};
+ghost use Rattle.cf_answer.specs.Texts.{answered_line, answers_line, answers_verb as the_answers_verb, place_line, place_line_behind, count_line, choose_line, rule_line};
 ghost use Rattle.cf_answer.specs.Texts.{steps_line, rejected_line, fault_line, answer_line};
 ghost use Rattle.cf_answer.specs.Written.{line_of};
 
@@ -266,7 +266,7 @@ fn put_rejected<E: Sink>(
     put_pieces(err, &pieces)
 }
 
-fn answers_verb(count: u32) -> &'static [u8]
+fn answers_verb<'x>(count: u32) -> &'x [u8]
     ensures { result.now ≡ the_answers_verb count }
 {
     if count == 1 {
@@ -280,13 +280,19 @@ fn put_answers<E: Sink>(err: &mut E, count: u32, so: &[u8]) -> Result<(), Failed
     ensures { Puts (answers_line count so.now) (E.seen err.old) (E.seen err.new) result }
 {
     let mut number = Buffer::new();
-    let pieces = [
-        b"check: ".as_slice(),
-        number.format(count).as_bytes(),
-        answers_verb(count),
-        so,
-        b"\n".as_slice(),
-    ];
+    put_answered(err, number.format(count).as_bytes(), answers_verb(count), so)
+}
+
+// What is lent stands in one array, so it is lent for one time.
+fn put_answered<'x, E: Sink>(
+    err: &mut E,
+    count: &'x [u8],
+    verb: &'x [u8],
+    so: &'x [u8],
+) -> Result<(), Failed>
+    ensures { Puts (answered_line count.now verb.now so.now) (E.seen err.old) (E.seen err.new) result }
+{
+    let pieces = [b"check: ".as_slice(), count, verb, so, b"\n".as_slice()];
     put_pieces(err, &pieces)
 }
 

@@ -3,9 +3,9 @@ ghost use Rattle.std.specs.Prelude.{◌≡◌, ◌≢◌, ◌<◌, ◌||◌, ℕ
 ghost use Rattle.cf_tree.specs.Occurs.{rel_holds as rel_holds_of};
 ghost use Rattle.cf_tree.specs.RelTree.{rel_not, rel_or};
 ghost use Rattle.cf_tree.specs.RelView.{rel_tree};
-ghost use Rattle.cf_tree.specs.Values.{elements, number as the_number, number_of, truth as the_truth};
+ghost use Rattle.cf_tree.specs.Values.{number_of};
 ghost use Rattle.cf_eval.specs.Seen.{plain, plains};
-ghost use Rattle.cf_form.specs.Branches.{is_among as is_among_of, values_in};
+ghost use Rattle.cf_form.specs.Branches.{is_among as is_among_of, is_truth as is_truth_base_of, values_in};
 ghost use Rattle.cf_form.specs.Told.{HoldsCondition};
 ghost use Rattle.cf_form.specs.ToldView.{given_tree, told_branch, told_choose, truth_at};
 ghost use Rattle.cf_choose.specs.Solved.{IsOutput, SolveAnswer};
@@ -19,16 +19,16 @@ ghost use Rattle.cf_answer.specs.ToldChecks.{is_told as is_told_of, named_levels
 ghost use Rattle.cf_answer.specs.ToldChecks.{shown_value as shown_value_of, shown_values as shown_values_of, some_condition_holds as some_condition_holds_of};
 ghost use Rattle.cf_answer.specs.ToldChecks.{told_of as the_told_of, truth_or};
 ghost use Rattle.cf_answer.specs.Tells.{are_truths as are_truths_of, is_named as is_named_of, is_truth as is_truth_of};
-ghost use Rattle.cf_answer.specs.Tells.{Fits, IsCondition, IsOfTwo, TellsExistence, TellsExistenceIn, TellsUniqueness, TellsUniquenessIn};
+ghost use Rattle.cf_answer.specs.Tells.{Fits, IsCondition, IsOfTwo, TellsExistence, TellsExistenceIn, TellsUniqueness, TellsUniquenessIn, same_values};
 ghost use Rattle.cf_answer.specs.Checking.{IsExistenceOf, IsRefusedExistence, IsRefusedUniqueness, IsUniquenessOf, asked_view, named_by, telling_view};
 
 use cf_choose::{ChooseFault, Solved, solve};
 use cf_decide::{Effort, decide_existence, decide_uniqueness};
-use cf_eval::Value;
+use cf_eval::{Value, compare};
 use cf_form::{Branch, ChooseInfo, TruthAt};
 use cf_set::Set;
 use cf_setwit::push_if;
-use cf_tree::{Base, NoMemory, Rel, rel_holds, to_u32, without};
+use cf_tree::{Base, NoMemory, Order, Rel, rel_holds, to_u32, without};
 use cf_warn::{Doubt, ExistenceAnswer, UniquenessAnswer, is_over, parameters};
 use std::alloc::Global;
 
@@ -443,8 +443,14 @@ fn are_truths(asked: &Asked<'_>, truths: &[TruthAt]) -> bool
 fn is_truth(asked: &Asked<'_>, level: u32) -> bool
     ensures { result ≡ is_truth_of (asked_view asked.now) level }
 {
-    match base_at(asked.scope, level) {
-        Base::Bool => is_among(level, asked.levels),
+    is_truth_base(base_at(asked.scope, level)) && is_among(level, asked.levels)
+}
+
+fn is_truth_base(base: Base) -> bool
+    ensures { result ≡ is_truth_base_of base }
+{
+    match base {
+        Base::Bool => true,
         Base::Int | Base::Set => false,
     }
 }
@@ -465,9 +471,16 @@ fn are_named(asked: &Asked<'_>, branch: &Branch) -> bool
     ensures { result ≡ true → (x : ℕ) → x < length asked.now.scope.now → rel_holds_of x (question_of (told_branch branch.now)) ≡ true →
         is_named_of (asked_view asked.now) x ≡ true }
 {
-    let Ok(end) = to_u32(asked.scope.len()) else {
-        return false;
-    };
+    match to_u32(asked.scope.len()) {
+        Ok(end) => are_named_below(asked, branch, end),
+        Err(_) => false,
+    }
+}
+
+fn are_named_below(asked: &Asked<'_>, branch: &Branch, end: u32) -> bool
+    ensures { result ≡ true → (x : ℕ) → x < end → rel_holds_of x (question_of (told_branch branch.now)) ≡ true →
+        is_named_of (asked_view asked.now) x ≡ true }
+{
     for level in 0..end {
         if !is_named_if_asked(asked, branch, level) {
             return false;
@@ -490,16 +503,16 @@ fn is_named_if_asked(asked: &Asked<'_>, branch: &Branch, level: u32) -> bool
 fn is_named_value(asked: &Asked<'_>, level: u32) -> bool
     ensures { result ≡ is_named_of (asked_view asked.now) level }
 {
-    match base_at(asked.scope, level) {
-        Base::Bool => false,
-        Base::Int | Base::Set => is_among(level, asked.levels),
-    }
+    !is_truth_base(base_at(asked.scope, level)) && is_among(level, asked.levels)
 }
 
 fn asks_of(branch: &Branch, level: u32) -> bool
     ensures { result ≡ rel_holds_of level (question_of (told_branch branch.now)) }
 {
-    condition_holds(level, &branch.given) || rel_holds(&branch.relation, level)
+    match &branch.given {
+        None => rel_holds(&branch.relation, level),
+        Some(condition) => rel_holds(condition, level) || rel_holds(&branch.relation, level),
+    }
 }
 
 // What the answer of a branch says. For one that does not fit there is no memory.
@@ -545,65 +558,37 @@ fn is_of_two(answer: &UniquenessAnswer) -> bool
     ensures { result ≡ true → IsOfTwo answer.now }
 {
     match answer {
-        UniquenessAnswer::Two { first, second, .. } => !are_same(first, second),
-        UniquenessAnswer::Unique | UniquenessAnswer::Undecided(_) => true,
+        UniquenessAnswer::Two { first, second, .. } => differ(first, second),
+        UniquenessAnswer::Unique => true,
+        UniquenessAnswer::Undecided(_) => true,
     }
+}
+
+fn differ(first: &[Value], second: &[Value]) -> bool
+    ensures { result ≡ true → plains first.now ≢ plains second.now }
+{
+    !are_same(first, second)
 }
 
 // Whether values are the same, one by one.
 fn are_same(first: &[Value], second: &[Value]) -> bool
-    ensures { result ≡ false → plains first.now ≢ plains second.now }
+    ensures { result ≡ same_values (plains first.now) (plains second.now) }
 {
-    let mut rest = first;
-    let mut others = second;
-    while let Some((value, more)) = rest.split_first() {
-        let Some((other, behind)) = others.split_first() else {
-            return false;
-        };
-        if !is_same(value, other) {
-            return false;
+    let mut left = first;
+    let mut right = second;
+    while let Some((value, more)) = left.split_first() {
+        match right.split_first() {
+            None => return false,
+            Some((other, rest)) => {
+                if !compare(Order::Eq, value, other) {
+                    return false;
+                }
+                left = more;
+                right = rest;
+            }
         }
-        rest = more;
-        others = behind;
     }
-    others.is_empty()
-}
-
-fn is_same(value: &Value, other: &Value) -> bool
-    ensures { result ≡ false → plain value.now ≢ plain other.now }
-{
-    match value {
-        Value::Int(number) => is_number(other, *number),
-        Value::Truth(truth) => is_truth_value(other, *truth),
-        Value::Elements(set) => is_set(other, set),
-    }
-}
-
-fn is_number(value: &Value, number: i128) -> bool
-    ensures { result ≡ false → plain value.now ≢ the_number number }
-{
-    match value {
-        Value::Int(other) => *other == number,
-        Value::Truth(_) | Value::Elements(_) => false,
-    }
-}
-
-fn is_truth_value(value: &Value, truth: bool) -> bool
-    ensures { result ≡ false → plain value.now ≢ the_truth truth }
-{
-    match value {
-        Value::Truth(other) => *other == truth,
-        Value::Int(_) | Value::Elements(_) => false,
-    }
-}
-
-fn is_set(value: &Value, set: &Set) -> bool
-    ensures { result ≡ false → plain value.now ≢ elements set.now }
-{
-    match value {
-        Value::Elements(other) => other.same(set),
-        Value::Int(_) | Value::Truth(_) => false,
-    }
+    right.is_empty()
 }
 
 // ---- all branches

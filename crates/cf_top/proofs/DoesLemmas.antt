@@ -33,7 +33,7 @@ pub one_name : (kind : CommandKind) (flags : Flags) (form : ReplyForm) (name : L
 one_name Compile flags form name = refl
 one_name Run flags form name = refl
 one_name Pre flags form name = refl
-one_name Check flags form name = refl
+one_name (Check strictness) flags form name = refl
 one_name Exec flags form name = refl
 one_name Prove flags form name = refl
 
@@ -159,7 +159,7 @@ long_refused : (kind : CommandKind) (flags : Flags) (form : ReplyForm) (name tex
 long_refused Compile flags form name text h = too_long h
 long_refused Run flags form name text h = too_long h
 long_refused Pre flags form name text h = too_long h
-long_refused Check flags form name text h = too_long h
+long_refused (Check strictness) flags form name text h = too_long h
 long_refused Exec flags form name text h = too_long (past_its_own (edition_for (text ∷ [])) (length text) h)
 long_refused Prove flags form name text h = too_long h
 
@@ -278,7 +278,7 @@ pub file_in_order : (kind : CommandKind) (flags : Flags) (form : ReplyForm) (nam
 file_in_order Compile flags form name before after status = tt
 file_in_order Run flags form name before after status = tt
 file_in_order Pre flags form name before after status = tt
-file_in_order Check flags form name before after status = tt
+file_in_order (Check strictness) flags form name before after status = tt
 file_in_order Exec flags form name before after status = tt
 file_in_order Prove flags form name before after status = tt
 

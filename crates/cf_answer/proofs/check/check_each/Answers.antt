@@ -9,12 +9,12 @@ loop-choose-init c =
     let empty : c.new-text.result.items ≡ [] = search rules in
     λ edition qs s conditions.
     walk_start edition (map match_tree c.args.matches.now.infos.now) (map told_choose c.args.told.now) qs c.args.chooses.now _ _ empty
-    c.nothing_answered.ensures s
+    c.nothing_answered-answered.ensures s
 
 pub loop-choose-preserved : goal.loop-choose-preserved
 loop-choose-preserved c =
     let item : c.choose-item.result ≡ get_or c.args.chooses.now c.loop-choose.choose-index c.choose-item.result = search rules in
-    λ edition qs s conditions. rw c.in_ok-with_answered.ensures
+    λ edition qs s conditions. rw c.in_ok-answered.ensures
     (walk_on edition (map match_tree c.args.matches.now.infos.now) (map told_choose c.args.told.now) qs c.args.chooses.now c.loop-choose.choose-index
     c.loop-choose.before c.choose-item.result _ _ c.loop-choose.answered c.in_ok-more.more (omega arith) item
     (c.loop-choose.invariant edition qs s conditions) conditions (c.in_ok-more.ensures edition))

@@ -27,7 +27,8 @@ returns-in_err-checks c =
     let defs = rw c.typed-typed.ensures at c.in_ok-lowered.ensures.defs in
     let matches = rw c.typed-typed.ensures at c.in_ok-lowered.ensures.matches in
     let s = formed_lowered c.args.text.now c.in_ok-formed.formed c.in_ok-lowered.lowered c.requires.edition c.in_ok-formed.ensures typed defs matches in
-    rw (p.1, p.2) (c.in_err-checks.ensures Three c.args.text.now s (conditions_held c.args.text.now c.in_ok-formed.formed c.in_ok-formed.ensures))
+    let told = rw c.chooses.ensures at c.in_err-checks.ensures in
+    rw (p.1, p.2) (told Three c.args.text.now s (conditions_held c.args.text.now c.in_ok-formed.formed c.in_ok-formed.ensures))
 
 pub returns : goal.returns
 returns c =
@@ -42,5 +43,6 @@ returns c =
       s.typed,
       s.is,
       subst (λ e. AreChecks e told s.typed c.in_ok-checks.checks.text.items c.in_ok-checks.checks.answered) (sym c.requires.edition)
-          (rw c.chooses.ensures at c.in_ok-checks.ensures Three c.args.text.now s (conditions_held c.args.text.now c.in_ok-formed.formed c.in_ok-formed.ensures)),
+          (rw c.chooses.ensures at c.in_ok-checks.ensures Three c.args.text.now s
+          (conditions_held c.args.text.now c.in_ok-formed.formed c.in_ok-formed.ensures)),
     )

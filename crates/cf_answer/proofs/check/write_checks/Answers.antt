@@ -1,6 +1,6 @@
-use Rattle.std.proofs.Common.{◌∙◌, refl, sym, inr, append-nil}
+use Rattle.std.proofs.Common.{refl, inr}
 use Rattle.std.proofs.lemmas.Result.{err_from_is_err_and}
-use Rattle.cf_answer.proofs.AnswerLemmas.{ended_answers, ended_late, stopped_answers, written_answers}
+use Rattle.cf_answer.proofs.AnswerLemmas.{ended_answers, ended_late, late_fault, part_checked, stopped_answers}
 use Rattle.cf_answer.proofs.check.write_checks.Goals as goal
 
 pub returns-in_err-checks-clause-answers : goal.returns-in_err-checks-clause-answers
@@ -12,6 +12,19 @@ pub returns-in_err-unmet-clause-answers : goal.returns-in_err-unmet-clause-answe
 returns-in_err-unmet-clause-answers g c =
     let p = err_from_is_err_and c.from_residual-in_err-unmet.result c.from_residual-in_err-unmet.ensures.1 in
     λ file given input. rw (p.1, p.2) (stopped_answers _ given given _ _ _ refl (inr refl))
+
+pub returns-in_err-write_text-clause-answers : goal.returns-in_err-write_text-clause-answers
+returns-in_err-write_text-clause-answers g c =
+    let p = err_from_is_err_and c.from_residual-in_err-write_text.result c.from_residual-in_err-write_text.ensures.1 in
+    let part = c.in_err-write_text.ensures in
+    λ file given input. rw (p.1, p.2)
+    (part_checked c.args.strictness file given c.args.text.now c.in_ok-checks.checks.text.items c.in_ok-checks.checks.answered input _ _ _
+    c.in_ok-checks.ensures (rw c.deref.ensures.value at part.prefix) part.fault part.count)
+
+pub returns-in_err-write_text-clause-unwritten : goal.returns-in_err-write_text-clause-unwritten
+returns-in_err-write_text-clause-unwritten g c =
+    let p = err_from_is_err_and c.from_residual-in_err-write_text.result c.from_residual-in_err-write_text.ensures.1 in
+    rw (p.1, p.2) (λ e. absurd (late_fault _ c.in_err-write_text.ensures.fault e))
 
 pub returns-clause-answers : goal.returns-clause-answers
 returns-clause-answers g c =

@@ -6,4 +6,5 @@ use Rattle.cf_answer.proofs.TellLemmas.{existences_tell}
 use Rattle.cf_answer.proofs.told_check.told_existence.Goals as goal
 
 pub returns : goal.returns
-returns c = IfOk-weaker c.existence_in_all.result _ _ (λ e h. existences_tell (asked_view c.args.asked.now) (map told_branch c.args.branches.now) e h) c.existence_in_all.ensures
+returns c = IfOk-weaker c.existence_in_all.result _ _ (λ e h. existences_tell (asked_view c.args.asked.now) (map told_branch c.args.branches.now) e h)
+    c.existence_in_all.ensures

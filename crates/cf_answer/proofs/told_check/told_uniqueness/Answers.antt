@@ -6,4 +6,5 @@ use Rattle.cf_answer.proofs.TellLemmas.{uniquenesses_tell}
 use Rattle.cf_answer.proofs.told_check.told_uniqueness.Goals as goal
 
 pub returns : goal.returns
-returns c = IfOk-weaker c.uniqueness_in_all.result _ _ (λ u h conditions. uniquenesses_tell (asked_view c.args.asked.now) (map told_branch c.args.branches.now) u conditions h) c.uniqueness_in_all.ensures
+returns c = IfOk-weaker c.uniqueness_in_all.result _ _
+    (λ u h conditions. uniquenesses_tell (asked_view c.args.asked.now) (map told_branch c.args.branches.now) u conditions h) c.uniqueness_in_all.ensures

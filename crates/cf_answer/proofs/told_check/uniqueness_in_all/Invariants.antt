@@ -13,5 +13,6 @@ decreases-loop-branch l = length l.rest
 
 abbrev pub invariant-loop-branch : goal.invariant-loop-branch
 invariant-loop-branch l =
-    (all : UniquenessAnswer) → ComeTo (λ b u. HoldsCondition b → TellsUniquenessIn (asked_view l.asked) b u) first_uniqueness l.answer (map told_branch l.rest) all →
+    (all : UniquenessAnswer) → ComeTo (λ b u. HoldsCondition b → TellsUniquenessIn (asked_view l.asked) b u) first_uniqueness l.answer (map told_branch l.rest)
+    all →
     ComeTo (λ b u. HoldsCondition b → TellsUniquenessIn (asked_view l.asked) b u) first_uniqueness Unique (map told_branch l.branches) all

@@ -4,7 +4,7 @@ use Rattle.cf_form.specs.ToldView.{told_branch}
 use Rattle.cf_answer.specs.Checking.{asked_view}
 use Rattle.cf_answer.specs.Tells.{is_named}
 use Rattle.cf_answer.specs.ToldChecks.{existence_question}
-use Rattle.cf_answer.proofs.told_check.are_named.Given as goal
+use Rattle.cf_answer.proofs.told_check.are_named_below.Given as goal
 
 abbrev pub invariant-loop-level : goal.invariant-loop-level
 invariant-loop-level l =
