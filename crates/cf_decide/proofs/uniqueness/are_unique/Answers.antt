@@ -13,6 +13,6 @@ returns c =
     let s = c.outputs.ensures.solved in
     IfOk-weaker c.never_two.result
     (λ b. b ≡ true → NeverHolds [] (twice_outputs p.scope.items p.outputs.items (rel_tree p.rel))
-        (twice p.scope.items p.outputs.items c.args.shown (rel_tree p.rel)))
+    (twice p.scope.items p.outputs.items c.args.shown (rel_tree p.rel)))
     (λ b. b ≡ true → HasUnique p.scope.items p.outputs.items c.args.shown (rel_tree p.rel))
     (λ b h e. never_two p.scope.items p.outputs.items c.args.shown (rel_tree p.rel) s.typed s.are_outputs (h e)) c.never_two.ensures
