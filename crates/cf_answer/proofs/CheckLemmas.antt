@@ -30,7 +30,7 @@ use Rattle.cf_answer.specs.Checks.{IsMatch, IsArm, IsOwn, AreLines, of_choose, o
 use Rattle.cf_answer.specs.Checking.{AddsCheck, AddsCheckBehind, AddsTold, AddsCover, AddsExistence, AddsUniqueness}
 use Rattle.cf_answer.specs.Tells.{TellsClasses, TellsCover, TellsExistence, TellsUniqueness}
 use Rattle.cf_answer.specs.ToldChecks.{Asked, named_levels, told_of, is_later_branch}
-use Rattle.cf_answer.specs.Unmet.{answered, nothing_answered, nothing_unmet, unmet_cover, unmet_existence, unmet_uniqueness, with_answered, with_unmet}
+use Rattle.cf_answer.specs.Unmet.{answered, nothing_answered, nothing_unmet, unmet_existence, unmet_uniqueness, with_answered, with_unmet}
 use Rattle.cf_answer.specs.declared.unmet.Answered.{Answered}
 use Rattle.cf_answer.specs.declared.unmet.Unmet.{Unmet}
 use Rattle.cf_form.specs.Told.{HoldsCondition, HoldConditions, ToldChoose}

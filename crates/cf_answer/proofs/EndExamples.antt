@@ -289,7 +289,8 @@ checking strictness = record { command = check strictness (codes "a"); files = c
 abbrev written : Streams
 written = after (codes "1\n2") (codes "xlines\n")
 
-check-no : AreSourceChecks (codes "source") (codes "lines\n") (answered one_no nothing_unmet) → Ends (checking Existing) before written (Err (fault.AnswersNo 1))
+check-no : AreSourceChecks (codes "source") (codes "lines\n") (answered one_no nothing_unmet) →
+    Ends (checking Existing) before written (Err (fault.AnswersNo 1))
 check-no checks = (
   [],
   tt,

@@ -1,9 +1,8 @@
 -- A relation over the variables in scope: whatever stands behind these, it holds alike, and it holds or does not.
-use Rattle.std.proofs.Common.{◌≡◌, ◌<◌, ◌↔◌, ◌∙◌, ℕ, pos, Bool, true, false, not, ◌&&◌, ◌||◌, List, ◌++◌, length, slice_get, unwrap_or, sym, ap, refl, arith}
+use Rattle.std.proofs.Common.{◌≡◌, ◌<◌, ◌↔◌, ◌∙◌, ℕ, pos, Bool, true, false, not, ◌&&◌, ◌||◌, List, ◌++◌, length, unwrap_or, sym, ap, refl, arith}
 use Rattle.std.proofs.lemmas.Option.{unwrap_or-slice_get}
 use Rattle.cf_tree.specs.declared.base.Base.{Base}
 use Rattle.cf_tree.specs.Numbers.{is_multiple}
-use Rattle.cf_tree.specs.Occurs.{rel_holds}
 use Rattle.cf_tree.specs.Relation.{Holds, IsTyped, members, val}
 use Rattle.cf_tree.specs.RelTree.{RelTree, rel_true, rel_false, rel_compare, rel_same_set, rel_other_set, rel_subset, rel_divides, rel_and, rel_or, rel_not}
 use Rattle.cf_tree.specs.Sets.{is_subset}

@@ -1,5 +1,5 @@
 -- What a sample of a question says of a branch, where it names the truth variables of the branch and all variables of which the question speaks.
-use Rattle.std.proofs.Common.{inl, inr, ◌≡◌, ◌∙◌, ℕ, zero, suc, ◌+◌, ◌<◌, ◌≤◌, ◌==◌, pos, Bool, true, false, not, ◌&&◌, Option, Some, None, List, [], ◌∷◌, length, map, filter, refl, sym, ap, ap₂, subst, true≢false, arith}
+use Rattle.std.proofs.Common.{inl, inr, ◌≡◌, ◌∙◌, ℕ, zero, suc, ◌+◌, ◌<◌, ◌≤◌, ◌==◌, pos, Bool, true, false, not, Option, Some, None, List, [], ◌∷◌, length, map, filter, refl, sym, ap, ap₂, subst, true≢false, arith}
 use Rattle.std.specs.List.{range_with_len}
 use Rattle.std.proofs.lemmas.Bool.{and_parts, cases_lt, cond_both, eq-eqb, eqb-true, ne_eqb, not-true}
 use Rattle.std.proofs.lemmas.List.{get_or_past, length-map}

@@ -1,5 +1,5 @@
 -- What the verdicts on questions say by their meaning.
-use Rattle.std.proofs.Common.{◌≡◌, ap, refl, sym, subst, ℕ, suc, List, [], ◌∷◌, length, Some, None, Vec, Global, arith}
+use Rattle.std.proofs.Common.{◌≡◌, ap, refl, sym, subst, suc, List, [], ◌∷◌, length, Vec, Global, arith}
 use Rattle.std.proofs.lemmas.List.Elements.{All-nil, All-cons, All-head, All-tail}
 use Rattle.std.specs.Prelude.{All, Any, take}
 use Rattle.cf_tree.specs.declared.base.Base.{Base}

@@ -1,5 +1,5 @@
 -- Which answers of `check` are not yes, and how a strict one ends.
-use Rattle.std.specs.Prelude.{ℕ, ◌+◌, nat_lt, if◌then◌else◌, Result, Ok, Err}
+use Rattle.std.specs.Prelude.{◌+◌, nat_lt, if◌then◌else◌, Result, Ok, Err}
 use Rattle.cf_warn.specs.declared.answer.ExistenceAnswer.{ExistenceAnswer}
 use Rattle.cf_warn.specs.declared.answer.ExistenceAnswer.TheVariants as existence
 use Rattle.cf_warn.specs.declared.answer.UniquenessAnswer.{UniquenessAnswer}

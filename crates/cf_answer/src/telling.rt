@@ -280,7 +280,12 @@ fn put_answers<E: Sink>(err: &mut E, count: u32, so: &[u8]) -> Result<(), Failed
     ensures { Puts (answers_line count so.now) (E.seen err.old) (E.seen err.new) result }
 {
     let mut number = Buffer::new();
-    put_answered(err, number.format(count).as_bytes(), answers_verb(count), so)
+    put_answered(
+        err,
+        number.format(count).as_bytes(),
+        answers_verb(count),
+        so,
+    )
 }
 
 // What is lent stands in one array, so it is lent for one time.

@@ -59,7 +59,8 @@ pub record FileRead (c : Command) (name : List ℕ) (before after : ShelfSeen) :
   pub given : after.given ≤ before.given + (limit + 1)
   pub ends : after.ends ≤ before.ends + 1
 
-abbrev pub file_read : (c : Command) (name : List ℕ) (before after : ShelfSeen) (limit : ℕ) → ((files : List (List ℕ)) → limit ≡ text_most c (edition_for files)) →
+abbrev pub file_read : (c : Command) (name : List ℕ) (before after : ShelfSeen) (limit : ℕ) →
+    ((files : List (List ℕ)) → limit ≡ text_most c (edition_for files)) →
     after.fetches ≡ one_more before.fetches →
     (after.left ≡ before.left) ⊎ TookFront (limit + 1) (before.texts name) after.left → after.given ≤ before.given + (limit + 1) →
     after.ends ≤ before.ends + 1 → FileRead c name before after

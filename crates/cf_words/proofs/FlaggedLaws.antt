@@ -422,7 +422,8 @@ module _ (name : Text) where
   none_came f = false
 
   pub flags_found_are : (us : List Use) → AreOnce (words_of us)
-      → found_in said (flagged name) (words_of us) ≡ option_map (λ o. (flags_in (words_of us), form_in (words_of us), checks_in (words_of us), o)) (only (operands (words_of us)))
+      → found_in said (flagged name) (words_of us) ≡ option_map (λ o. (flags_in (words_of us), form_in (words_of us), checks_in (words_of us), o))
+      (only (operands (words_of us)))
   flags_found_are us once =
       flags_go us none_came None [] (record { flags = none_found; operand = refl }) once
     where
