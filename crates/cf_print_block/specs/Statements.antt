@@ -1,0 +1,335 @@
+-- The statements of a block, in a language.
+use Rattle.std.specs.Prelude.{ℕ, zero, suc, ◌+◌, Bool, true, false, ◌&&◌, ◌||◌, List, [], ◌∷◌, ◌++◌, map, length, take, Option, Some, None, codes, decimal, nat_eq, pred, if◌then◌else◌, pos}
+use Rattle.cf_tree.specs.declared.base.Base.{Base}
+use Rattle.cf_tree.specs.declared.base.Base.TheVariants.{Int}
+use Rattle.cf_range.specs.Ranges.{between, whole}
+use Rattle.cf_stmt.specs.Blocks.{Block, give, none, leave, bind, part, join, test, arm}
+use Rattle.cf_print_term.specs.Expressions.{Sight}
+use Rattle.cf_print.specs.Names.{new_name}
+use Rattle.cf_print_line.specs.Heads.{all_parameters, part_opening, part_closing}
+use Rattle.cf_print_line.specs.Layout.{line, let_lines, read_lines, comment_text, none_text, next_text, fall_lines, if_text, guard_text, end_lines, guard_end, else_lines, scope_lines, search_text, give_lines, call_lines}
+use Rattle.cf_print_block.specs.Places.{Setting, table, words, deeper, leaving_by, behind_arm, outputs_at, giving_of, giving, Draft, put, taking, freed, given, variable, first_at_hand, behind_one, behind, ahead, Held, Wish, nth_wish, wish_at}
+use Rattle.cf_print_shape.specs.Shapes.{number_of, is_none, is_leave, exit_of, gives, is_straight, can_fall, is_plain, block_reads, those_read, results_of}
+use Rattle.cf_print_shape.specs.Wishes.{given_at}
+use Rattle.cf_print.specs.declared.language.Language.{Language}
+use Rattle.cf_print.specs.declared.language.Language.TheVariants.{C, Python, JavaScript}
+use Rattle.cf_print_shape.specs.declared.exit.Exit.{Exit}
+use Rattle.cf_print_shape.specs.declared.exit.Exit.TheVariants.{Falls, GoesOn, Ends}
+use Rattle.cf_print_block.specs.declared.place.Place.{Place}
+use Rattle.cf_print_block.specs.declared.naming.Role.{Role}
+use Rattle.cf_print_block.specs.declared.naming.Role.TheVariants.{Value as AValue, Pointer}
+use Rattle.cf_print_block.specs.declared.values.AtHand.{AtHand}
+
+-- ---- values in variables
+
+abbrev pub names_of : List AtHand → List (List ℕ)
+names_of vs = map (λ v. v.text) vs
+
+-- one value more
+abbrev pub with_value : AtHand → Draft → Held → Held
+with_value v d h = record { values = h.values ++ (v ∷ []); draft = d }
+
+-- a value gets a variable, if it is none
+unfoldable pub with_let : Setting → ℕ → Wish → AtHand → Held → Held
+with_let s depth wish v h =
+    let name = new_name (words s) h.draft.taken v.base wish.name in
+    with_value (variable (table s) v.base v.range name)
+    (taking name (put (let_lines s.language depth wish.is_read v.base name v.text) h.draft)) h
+
+unfoldable pub with_variable : Setting → ℕ → Wish → AtHand → Held → Held
+with_variable s depth wish v h =
+    if v.is_variable then with_value v (put (read_lines s.language depth wish.is_read v.text) h.draft) h else with_let s depth wish v h
+
+-- the values from the k-th on, behind those that have variables
+abbrev pub in_variables : Setting → ℕ → (ℕ → Wish) → ℕ → List AtHand → Held → Held
+in_variables s depth wish k [] h = h
+in_variables s depth wish k (v ∷ vs) h = in_variables s depth wish (suc k) vs (with_variable s depth (wish k) v h)
+
+abbrev pub no_values : Draft → Held
+no_values d = record { values = []; draft = d }
+
+unfoldable pub all_in_variables : Setting → ℕ → (ℕ → Wish) → Held → Held
+all_in_variables s depth wish h = in_variables s depth wish 0 h.values (no_values h.draft)
+
+-- of the k-th value that a block gets behind the variables from x on
+abbrev pub wish_in : Setting → Place → ℕ → Block → ℕ → Wish
+wish_in s p x b k = record { name = wish_at (outputs_at s p.giving) (given_at 0 b (x + k)); is_read = block_reads (x + k) b }
+
+abbrev pub no_wish : ℕ → Wish
+no_wish k = record { name = None; is_read = true }
+
+abbrev pub never_read : ℕ → Wish
+never_read k = record { name = None; is_read = false }
+
+-- values for a block that reads them as the variables from x on
+unfoldable pub bound_for : Setting → Place → ℕ → Block → Held → Held
+bound_for s p x b h = all_in_variables s p.depth (wish_in s p x b) h
+
+-- values stay as they are where no statement comes between
+unfoldable pub kept : Setting → ℕ → Bool → Held → Held
+kept s depth is_plain h = if is_plain then h else all_in_variables s depth no_wish h
+
+abbrev pub joined_held : Held → Held → Held
+joined_held a b = record { values = a.values ++ b.values; draft = b.draft }
+
+-- ---- names of functions, results and pointers
+
+abbrev pub times_in : ℕ → List ℕ → ℕ
+times_in n [] = 0
+times_in n (m ∷ ms) = if nat_eq n m then suc (times_in n ms) else times_in n ms
+
+abbrev pub first_name : ℕ → List ℕ
+first_name n = if nat_eq n 0 then codes "part" else codes "choose_" ++ decimal n
+
+-- behind so many functions for the same choose, or for parts of main
+abbrev pub numbered_name : ℕ → ℕ → List ℕ
+numbered_name n k = if nat_eq k 0 then first_name n else first_name n ++ codes "_" ++ decimal (suc k)
+
+unfoldable pub function_name : ℕ → List ℕ → List ℕ
+function_name n numbers = numbered_name n (times_in n numbers)
+
+abbrev pub pointer_wish : Option (List ℕ) → List ℕ
+pointer_wish None = codes "out"
+pointer_wish (Some o) = codes "out_" ++ o
+
+-- the wish for the k-th name of some variables, where these are asked
+abbrev pub role_wish : Role → List (List ℕ) → ℕ → Option (List ℕ)
+role_wish AValue asked k = nth_wish asked k
+role_wish Pointer asked k = Some (pointer_wish (nth_wish asked k))
+
+-- names for variables of these bases, from the k-th on
+abbrev pub names_for : Setting → Role → List (List ℕ) → ℕ → List Base → List (List ℕ) → List (List ℕ)
+names_for s r asked k [] taken = []
+names_for s r asked k (b ∷ bs) taken =
+    let name = new_name (words s) taken b (role_wish r asked k) in name ∷ names_for s r asked (suc k) bs (taken ++ (name ∷ []))
+
+-- in C a pointer for each result
+abbrev pub has_pointers : Language → Bool
+has_pointers C = true
+has_pointers Python = false
+has_pointers JavaScript = false
+
+abbrev pub pointers_for : Setting → List (List ℕ) → List Base → List (List ℕ) → List (List ℕ)
+pointers_for s asked bs taken = if has_pointers s.language then names_for s Pointer asked 0 bs taken else []
+
+-- ---- functions for parts
+
+-- a block that is not straight becomes a function before this one, with what it reads as parameters
+pub record Function : Type 0 where
+  pub number : ℕ
+  pub name : List ℕ
+  pub params : List (List ℕ)
+  pub bases : List Base
+  pub results : List Base
+  pub pointers : List (List ℕ)
+
+unfoldable pub function_of : Setting → Sight → Block → List ℕ → Function
+function_of s w a numbers =
+    let n = number_of a in
+    let params = those_read 0 a w.names in
+    let results = results_of w.bases a in
+    record {
+      number = n;
+      name = function_name n numbers;
+      params = params;
+      bases = those_read 0 a w.bases;
+      results = results;
+      pointers = pointers_for s (s.outputs n) results params;
+    }
+
+abbrev pub inside : Function → Place
+inside f = record { depth = 1; exit = Falls; arms = 0; giving = giving_of f.number }
+
+-- its draft before its first statement, behind these functions
+unfoldable pub begun : Setting → Function → List ℕ → List ℕ → Draft
+begun s f functions numbers = record {
+  lines = part_opening s.language f.number f.name (all_parameters s.language f.params f.bases f.pointers f.results) f.results;
+  pointers = f.pointers;
+  taken = f.params ++ f.pointers;
+  functions = functions;
+  numbers = numbers ++ (f.number ∷ []);
+}
+
+abbrev pub variables : Setting → List (List ℕ) → List Base → List AtHand
+variables s (x ∷ xs) (b ∷ bs) = variable (table s) b whole x ∷ variables s xs bs
+variables s _ _ = []
+
+-- its results in variables, behind the lines of the function that calls it, whose draft this was; and the draft behind its last statement
+unfoldable pub results_held : Setting → ℕ → Function → List ℕ → List (List ℕ) → List (List ℕ) → Draft → Held
+results_held s depth f lines pointers taken done =
+    let names = names_for s AValue (outputs_at s (giving_of f.number)) 0 f.results taken in
+    let status = new_name (words s) (taken ++ names) Int (Some (codes "status")) in
+    record {
+      values = variables s names f.results;
+      draft = record {
+        lines = lines ++ call_lines s.language depth status f.results names f.name f.params;
+        pointers = pointers;
+        taken = (taken ++ names) ++ (status ∷ []);
+        functions = (done.functions ++ done.lines) ++ part_closing s.language;
+        numbers = done.numbers;
+      };
+    }
+
+unfoldable pub called : Setting → Place → Sight → Block → (Place → Draft → Draft) → Draft → Held
+called s p w a body d =
+    let f = function_of s w a d.numbers in
+    results_held s p.depth f d.lines d.pointers d.taken (body (inside f) (begun s f d.functions d.numbers))
+
+-- the values of a block: in its place where it is straight
+unfoldable pub in_place : Setting → Place → Sight → Block → (Place → Draft → Held) → (Place → Draft → Draft) → Draft → Held
+in_place s p w a straight body d = if is_straight p.exit a then straight p d else called s p w a body d
+
+-- ---- lines of a place
+
+abbrev pub exit_lines : Language → ℕ → Exit → List ℕ
+exit_lines l depth Falls = fall_lines l depth
+exit_lines l depth GoesOn = line l depth (next_text l)
+exit_lines l depth (Ends n) = line l depth (none_text l n)
+
+-- where a condition holds the block is left
+abbrev pub guard_lines : Language → ℕ → List ℕ → Exit → List ℕ
+guard_lines l depth condition e = line l depth (guard_text l condition) ++ exit_lines l (suc depth) e ++ guard_end l depth
+
+unfoldable pub give_back : Setting → Place → Held → Draft
+give_back s p h = put (give_lines s.language p.depth h.draft.pointers (names_of h.values)) h.draft
+
+-- an arm among several is told by a comment
+abbrev pub arm_text : ℕ → List ℕ
+arm_text k = codes "Arm " ++ decimal (suc k) ++ codes "."
+
+abbrev pub arm_comment : Language → Place → List ℕ
+arm_comment l p = line l p.depth (comment_text l (arm_text p.arms))
+
+abbrev pub arm_lines : Language → Place → Option ℕ → List ℕ
+arm_lines l p (Some n) = if nat_eq p.arms 0 then [] else arm_comment l p
+arm_lines l p None = arm_comment l p
+
+-- ---- tests: a side that only leaves is a guard
+
+unfoldable pub branched : Setting → Place → Block → Block → AtHand → (Place → Draft → Draft) → (Place → Draft → Draft) → Draft → Draft
+branched s p a b v yes_side no_side d =
+    let behind_yes = freed (length d.taken) (yes_side (deeper p) (put (line s.language p.depth (if_text s.language v.text)) d)) in
+    if is_leave b then put (end_lines s.language p.depth) behind_yes
+    else if can_fall a
+    then put (end_lines s.language p.depth) (freed (length d.taken) (no_side (deeper p) (put (else_lines s.language p.depth) behind_yes)))
+    else no_side p (put (end_lines s.language p.depth) behind_yes)
+
+-- what the sides come to that only leave, the second first
+abbrev pub tested_by : Option Exit → Option Exit → Setting → Place → Block → Block → AtHand → (Place → Draft → Draft) → (Place → Draft → Draft) → Draft → Draft
+tested_by (Some e) f s p a b v yes_side no_side d = yes_side p (put (guard_lines s.language p.depth v.denied e) d)
+tested_by None (Some e) s p a b v yes_side no_side d = no_side p (put (guard_lines s.language p.depth v.text e) d)
+tested_by None None s p a b v yes_side no_side d = branched s p a b v yes_side no_side d
+
+unfoldable pub tested : Setting → Place → Block → Block → AtHand → (Place → Draft → Draft) → (Place → Draft → Draft) → Draft → Draft
+tested s p a b v yes_side no_side d = tested_by (exit_of p.exit b) (exit_of p.exit a) s p a b v yes_side no_side d
+
+abbrev pub guarded_by : Option Exit → Option Exit → Setting → Place → AtHand → (Place → Draft → Held) → (Place → Draft → Held) → Draft → Held
+guarded_by (Some e) f s p v yes_side no_side d = yes_side p (put (guard_lines s.language p.depth v.denied e) d)
+guarded_by None (Some e) s p v yes_side no_side d = no_side p (put (guard_lines s.language p.depth v.text e) d)
+guarded_by None None s p v yes_side no_side d = no_values d
+
+unfoldable pub guarded : Setting → Place → Block → Block → AtHand → (Place → Draft → Held) → (Place → Draft → Held) → Draft → Held
+guarded s p a b v yes_side no_side d = guarded_by (exit_of p.exit b) (exit_of p.exit a) s p v yes_side no_side d
+
+-- ---- arms
+
+abbrev pub arm_place : Language → Place → Place
+arm_place Python p = leaving_by Falls p
+arm_place C p = deeper (leaving_by Falls p)
+arm_place JavaScript p = deeper (leaving_by Falls p)
+
+-- an arm without searches: the last one has guards
+unfoldable pub plain_arm : Setting → Place → Option ℕ → (Place → Draft → Draft) → (Place → Draft → Draft) → Draft → Draft
+plain_arm s p (Some n) body later d = body (leaving_by (Ends n) p) (put (arm_lines s.language p (Some n)) d)
+plain_arm s p None body later d =
+    let ended = body (arm_place s.language p) (put (scope_lines s.language p.depth) (put (arm_lines s.language p None) d)) in
+    later (behind_arm p) (put (end_lines s.language p.depth) (freed (length d.taken) ended))
+
+abbrev pub search_wish : ℕ → Option (List ℕ)
+search_wish zero = Some (codes "i")
+search_wish (suc zero) = Some (codes "j")
+search_wish (suc (suc zero)) = Some (codes "k")
+search_wish j = Some (codes "k" ++ decimal j)
+
+-- the loops of searches below these bounds: the draft in them, what is known in them, and how deep they are
+pub record Loops : Type 0 where
+  pub draft : Draft
+  pub sight : Sight
+  pub depth : ℕ
+
+-- one loop more, for the j-th search
+unfoldable pub with_loop : Setting → ℕ → ℕ → Loops → Loops
+with_loop s j k l =
+    let name = new_name (words s) l.draft.taken Int (search_wish j) in
+    record {
+      draft = taking name (put (line s.language l.depth (search_text s.language name k)) l.draft);
+      sight = behind_one l.sight (variable (table s) Int (between (pos 0) (pos (pred k))) name);
+      depth = suc l.depth;
+    }
+
+abbrev pub loops_of : Setting → ℕ → List ℕ → Loops → Loops
+loops_of s j [] l = l
+loops_of s j (k ∷ ks) l = loops_of s (suc j) ks (with_loop s j k l)
+
+abbrev pub loop_ends : Language → ℕ → ℕ → List ℕ
+loop_ends l depth zero = []
+loop_ends l depth (suc n) = end_lines l (depth + n) ++ loop_ends l depth n
+
+unfoldable pub searched_arm : Setting → Place → Sight → List ℕ → Option ℕ → (Sight → Place → Draft → Draft) → (Place → Draft → Draft) → Draft → Draft
+searched_arm s p w ks last body later d =
+    let l = loops_of s 0 ks (record { draft = put (arm_lines s.language p last) d; sight = w; depth = p.depth }) in
+    let ended = body l.sight (record { depth = l.depth; exit = GoesOn; arms = 0; giving = p.giving }) l.draft in
+    later (behind_arm p) (put (loop_ends s.language p.depth (length ks)) (freed (length d.taken) ended))
+
+-- ---- blocks
+
+abbrev mutual
+  -- the draft behind the statements of a block that gives the values of a function
+  pub block : Setting → Sight → Block → Place → Draft → Draft
+  block s w (give c) p d = give_back s p (record { values = given (table s) w c; draft = d })
+  block s w (none n) p d = put (exit_lines s.language p.depth (Ends n)) d
+  block s w leave p d = put (exit_lines s.language p.depth p.exit) d
+  -- what stands behind a block that never gives is not reached
+  block s w (bind a b) p d =
+      if gives a
+      then (let h = bound_for s p (length w.names) b (in_place s p w a (held s w a) (block s w a) d) in block s (behind w h.values) b p h.draft)
+      else block s w a p d
+  block s w (part a b) p d =
+      if gives a
+      then (let h = bound_for s p 0 b (in_place s p w a (held s w a) (block s w a) d) in block s (ahead (first_at_hand h.values) w) b p h.draft)
+      else block s w a p d
+  block s w (join a b) p d =
+      if gives a
+      then (if gives b
+      then give_back s p
+      (let h = kept s p.depth (is_plain b) (in_place s p w a (held s w a) (block s w a) d) in
+      joined_held h (in_place s p w b (held s w b) (block s w b) h.draft))
+      else block s w b p (all_in_variables s p.depth never_read (in_place s p w a (held s w a) (block s w a) d)).draft)
+      else block s w a p d
+  block s w (test t a b) p d =
+      if gives t
+      then (let h = in_place s p w t (held s w t) (block s w t) d in
+      tested s p a b (first_at_hand h.values) (block s w a) (block s w b) h.draft)
+      else block s w t p d
+  block s w (arm ks a b) p d =
+      let q = giving s (number_of b) p in
+      if nat_eq (length ks) 0
+      then plain_arm s q (is_none b) (block s w a) (block s w b) d
+      else searched_arm s q w ks (is_none b) (λ v. block s v a) (block s w b) d
+
+  -- the values of a straight block, behind its statements
+  pub held : Setting → Sight → Block → Place → Draft → Held
+  held s w (give c) p d = record { values = given (table s) w c; draft = d }
+  held s w (bind a b) p d =
+      let h = bound_for s p (length w.names) b (in_place s p w a (held s w a) (block s w a) d) in held s (behind w h.values) b p h.draft
+  held s w (part a b) p d =
+      let h = bound_for s p 0 b (in_place s p w a (held s w a) (block s w a) d) in held s (ahead (first_at_hand h.values) w) b p h.draft
+  held s w (join a b) p d =
+      let h = kept s p.depth (is_plain b) (in_place s p w a (held s w a) (block s w a) d) in
+      joined_held h (in_place s p w b (held s w b) (block s w b) h.draft)
+  held s w (test t a b) p d =
+      let h = in_place s p w t (held s w t) (block s w t) d in
+      guarded s p a b (first_at_hand h.values) (held s w a) (held s w b) h.draft
+  held s w (arm ks a b) p d = held s w a (leaving_by (Ends (number_of b)) (giving s (number_of b) p)) d
+  held s w (none n) p d = no_values d
+  held s w leave p d = no_values d

@@ -1,0 +1,115 @@
+//! Loops of searches.
+ghost use Rattle.std.specs.Prelude.{◌≡◌, suc, drop, IfOk, OnOk, pred, pos};
+ghost use Rattle.cf_range.specs.Ranges.{between};
+ghost use Rattle.cf_print_line.specs.Layout.{line, search_text};
+ghost use Rattle.cf_print_block.specs.Places.{put, table, words};
+ghost use Rattle.cf_print_block.specs.PrinterView.{setting_in};
+ghost use Rattle.cf_print_block.specs.Statements.{loops_of as loops_for, search_wish as wish_of_search, with_loop as one_loop_more};
+
+use crate::draft::Draft;
+use crate::printer::Printer;
+use crate::values::{variable, with_one_behind};
+use crate::variables::named;
+use cf_print::{Language, next};
+use cf_print_line::layout;
+use cf_print_term::Scope;
+use cf_range::Range;
+use cf_tree::{Base, NoMemory, Text, put_number};
+use std::alloc::Global;
+use std::marker::Model;
+
+/// The draft in some loops, what is known in them, and how deep they are.
+#[derive(Drop)]
+pub(crate) struct Loops {
+    pub draft: Draft,
+    pub scope: Scope,
+    pub depth: usize,
+}
+
+impl Model for Loops {
+    ghost use Rattle.cf_print_block.specs.Statements.{Loops as Opened};
+
+    ghost Value = { Opened };
+
+    ghost view = { λ l. record { draft = l.draft; sight = l.scope; depth = l.depth } };
+}
+
+// The name that the variable of the j-th search wishes for.
+fn search_wish(alloc: Global, j: usize) -> Result<Option<Text>, NoMemory>
+    ensures { IfOk result (λ wish. wish ≡ wish_of_search j) }
+{
+    let mut bytes = Vec::new(alloc);
+    match j {
+        0 => bytes.push(b'i')?,
+        1 => bytes.push(b'j')?,
+        2 => bytes.push(b'k')?,
+        _ => {
+            bytes.push(b'k')?;
+            put_number(&mut bytes, j)?;
+        }
+    }
+    Ok(Some(Text { bytes }))
+}
+
+// The numbers from 0 to below a bound.
+fn below(bound: u32) -> Range
+    ensures { result ≡ between (pos 0) (pos (pred bound)) }
+{
+    Range {
+        low: 0,
+        high: i128::from(bound.saturating_sub(1)),
+    }
+}
+
+#[tactic(auto, unfolding(crate::specs::Places::put))]
+fn put_search(
+    draft: Draft,
+    language: Language,
+    depth: usize,
+    name: &Text,
+    bound: u32,
+) -> Result<Draft, NoMemory>
+    ensures { IfOk result (λ d. d ≡ put (line language depth (search_text language name.now bound)) draft) }
+{
+    let mut draft = draft;
+    layout::put_search(&mut draft.lines, language, depth, &name.bytes, bound)?;
+    Ok(draft)
+}
+
+// One loop more, for the j-th search.
+#[tactic(auto, unfolding(crate::specs::PrinterView::setting_in, crate::specs::Statements::with_loop))]
+fn with_loop(printer: &Printer<'_>, j: usize, bound: u32, loops: Loops) -> Result<Loops, NoMemory>
+    ensures { IfOk result (λ l. l ≡ one_loop_more (setting_in printer.now) j bound loops) }
+{
+    let Loops {
+        draft,
+        scope,
+        depth,
+    } = loops;
+    let wish = search_wish(printer.alloc, j)?;
+    let name = named(printer, &draft.taken, Base::Int, &wish)?;
+    let written = put_search(draft, printer.language, depth, &name, bound)?;
+    let draft = written.taking(printer.alloc, &name)?;
+    let value = variable(printer, Base::Int, below(bound), &name)?;
+    let scope = with_one_behind(printer.alloc, scope, &value)?;
+    Ok(Loops {
+        draft,
+        scope,
+        depth: next(depth)?,
+    })
+}
+
+/// The loops of searches below these bounds.
+pub(crate) fn loops_of(
+    printer: &Printer<'_>,
+    bounds: &[u32],
+    outside: Loops,
+) -> Result<Loops, NoMemory>
+    ensures { IfOk result (λ l. l ≡ loops_for (setting_in printer.now) 0 bounds.now outside) }
+{
+    let mut loops = outside;
+    for j in 0..bounds.len() {
+        loops = with_loop(printer, j, bounds[j], loops)?;
+    }
+    Ok(loops)
+}
