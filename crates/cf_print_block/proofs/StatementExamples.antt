@@ -1,12 +1,12 @@
 -- Worked examples of printed statements.
-use Rattle.std.specs.Prelude.{ℕ, pos, ◌≡◌, true, List, [], ◌∷◌, codes, refl}
+use Rattle.std.specs.Prelude.{ℕ, pos, ◌≡◌, true, List, [], ◌∷◌, map, codes, refl}
 use Rattle.std.specs.Fmt.{digits}
 use Rattle.cf_tree.specs.declared.base.Base.TheVariants.{Int}
 use Rattle.cf_tree.specs.declared.base.Order.TheVariants.{Ge}
 use Rattle.cf_tree.specs.CodeTree.{CodeTree, code_lit, code_truth, code_var, code_compare, codes_of, code_sum, code_sub}
 use Rattle.cf_stmt.specs.Blocks.{Block, give, none, leave, bind, part, join, test, arm}
 use Rattle.cf_range.specs.Ranges.{whole}
-use Rattle.cf_print_block.specs.Statements.{block, with_let, with_variable, all_in_variables, bound_for, kept, function_of, begun, results_held, called, in_place, give_back, branched, tested, guarded, plain_arm, searched_arm, with_loop, function_name}
+use Rattle.cf_print_block.specs.Statements.{block, with_let, with_variable, all_in_variables, bound_for, kept, function_of, begun, results_held, called, in_place, give_back, branched, tested, guarded, plain_arm, searched_arm, with_loop, function_name, search_name, pointers_for}
 use Rattle.cf_print_block.specs.Places.{deeper, leaving_by, behind_arm, giving, put, taking, freed, behind_one, ahead, at_hand}
 use Rattle.cf_print_shape.specs.declared.exit.Exit.TheVariants.{Falls}
 use Rattle.cf_print_block.specs.declared.place.Giving.TheVariants.{Results}
@@ -120,3 +120,40 @@ search : lines_in Python (arm (6 ∷ []) (test (give (code_compare Ge (sum (var 
     codes "    for i in range(6):\n        if i + i < x:\n            continue\n        return i\n    raise NoSolution(3)\n"
 unfolding digits with_let with_variable all_in_variables bound_for kept function_of begun results_held called in_place give_back branched tested guarded plain_arm searched_arm with_loop function_name deeper leaving_by behind_arm giving put taking freed behind_one ahead at_hand
 search = refl
+
+two_searches : lines_in JavaScript (arm (2 ∷ 3 ∷ []) (give (var 2)) (none 3)) ≡
+    codes "  for (let i = 0n; i < 2n; i++) {\n    for (let j = 0n; j < 3n; j++) {\n      return j;\n    }\n  }\n  throw new NoSolution(3);\n"
+unfolding digits with_let with_variable all_in_variables bound_for kept function_of begun results_held called in_place give_back branched tested guarded plain_arm searched_arm with_loop function_name deeper leaving_by behind_arm giving put taking freed behind_one ahead at_hand
+two_searches = refl
+
+search_in_c : lines_in C (arm (6 ∷ []) (test (give (code_compare Ge (sum (var 1 ∷ var 1 ∷ [])) (var 0))) (give (var 1)) leave) (none 3)) ≡
+    codes "    for (whole i = 0; i < 6; i++) {\n        if (i + i < x)\n            continue;\n        *out = i;\n        return past ? COMFUSY_OVERFLOW : 0;\n    }\n    return past ? COMFUSY_OVERFLOW : 3;\n"
+unfolding digits with_let with_variable all_in_variables bound_for kept function_of begun results_held called in_place give_back branched tested guarded plain_arm searched_arm with_loop function_name deeper leaving_by behind_arm giving put taking freed behind_one ahead at_hand
+search_in_c = refl
+
+both_sides : lines_in JavaScript (test (give (code_compare Ge (var 0) (num 10))) (give (var 0)) (give (num 3))) ≡
+    codes "  if (x >= 10n) {\n    return x;\n  }\n  return 3n;\n"
+unfolding digits with_let with_variable all_in_variables bound_for kept function_of begun results_held called in_place give_back branched tested guarded plain_arm searched_arm with_loop function_name deeper leaving_by behind_arm giving put taking freed behind_one ahead at_hand
+both_sides = refl
+
+guard_in_c : lines_in C (test (give (code_compare Ge (var 0) (num 10))) (give (var 0)) (none 2)) ≡
+    codes "    if (x < 10)\n        return past ? COMFUSY_OVERFLOW : 2;\n    *out = x;\n    return past ? COMFUSY_OVERFLOW : 0;\n"
+unfolding digits with_let with_variable all_in_variables bound_for kept function_of begun results_held called in_place give_back branched tested guarded plain_arm searched_arm with_loop function_name deeper leaving_by behind_arm giving put taking freed behind_one ahead at_hand
+guard_in_c = refl
+
+-- ---- names
+search_names : map search_name (0 ∷ 1 ∷ 2 ∷ 3 ∷ []) ≡ codes "i" ∷ codes "j" ∷ codes "k" ∷ codes "k3" ∷ []
+unfolding digits
+search_names = refl
+
+function_names : map (function_name 7) ([] ∷ (7 ∷ 3 ∷ 7 ∷ []) ∷ []) ≡ codes "choose_7" ∷ codes "choose_7_3" ∷ []
+unfolding digits function_name
+function_names = refl
+
+part_names : map (function_name 0) ([] ∷ (0 ∷ []) ∷ []) ≡ codes "part" ∷ codes "part_2" ∷ []
+unfolding digits function_name
+part_names = refl
+
+pointer_names : pointers_for (record { language = C; results = []; outputs = λ n. [] }) (codes "h" ∷ []) (Int ∷ Int ∷ []) (codes "h" ∷ []) ≡
+    codes "out_h" ∷ codes "out" ∷ []
+pointer_names = refl

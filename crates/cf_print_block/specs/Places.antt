@@ -1,5 +1,5 @@
 -- What is known at a place in printed statements, and what is written so far.
-use Rattle.std.specs.Prelude.{ℕ, zero, suc, Bool, true, false, nat_eq, nat_lt, List, [], ◌∷◌, ◌++◌, length, take, Option, Some, None, if◌then◌else◌, slice_index_or, codes, decimal}
+use Rattle.std.specs.Prelude.{ℕ, suc, Bool, true, false, nat_eq, List, [], ◌∷◌, ◌++◌, length, take, Option, Some, None, if◌then◌else◌, slice_get}
 use Rattle.cf_tree.specs.declared.base.Base.{Base}
 use Rattle.cf_tree.specs.declared.base.Base.TheVariants.{Int, Bool as Truth, Set}
 use Rattle.cf_tree.specs.CodeTree.{CodeTree, code_lit, code_truth, code_var, code_set_of, code_tuple, code_sum, code_sub, code_mul, code_neg, code_div, code_mod, code_min, code_max, code_compare, code_divides, code_and, code_or, code_not, code_union, code_inter, code_diff, code_subset, code_card, code_slice, code_fresh, code_if, code_let, code_solve, CodeTrees, no_codes, code_more}
@@ -145,10 +145,7 @@ pub record Wish : Type 0 where
   pub name : Option (List ℕ)
   pub is_read : Bool
 
--- the k-th of some names, where there are so many
-abbrev pub nth_wish : List (List ℕ) → ℕ → Option (List ℕ)
-nth_wish names k = if nat_lt k (length names) then Some (slice_index_or names k []) else None
-
+-- the name at a place, where there is one
 abbrev pub wish_at : List (List ℕ) → Option ℕ → Option (List ℕ)
 wish_at names None = None
-wish_at names (Some k) = nth_wish names k
+wish_at names (Some k) = slice_get names k

@@ -1,5 +1,5 @@
 -- The statements of a block, in a language.
-use Rattle.std.specs.Prelude.{ℕ, zero, suc, ◌+◌, Bool, true, false, ◌&&◌, ◌||◌, List, [], ◌∷◌, ◌++◌, map, length, take, Option, Some, None, codes, decimal, nat_eq, pred, if◌then◌else◌, pos}
+use Rattle.std.specs.Prelude.{ℕ, zero, suc, ◌+◌, ◌-◌, Bool, true, false, List, [], ◌∷◌, ◌++◌, map, length, Option, Some, None, codes, decimal, nat_eq, nat_lt, if◌then◌else◌, slice_get, pos}
 use Rattle.cf_tree.specs.declared.base.Base.{Base}
 use Rattle.cf_tree.specs.declared.base.Base.TheVariants.{Int}
 use Rattle.cf_range.specs.Ranges.{between, whole}
@@ -8,7 +8,7 @@ use Rattle.cf_print_term.specs.Expressions.{Sight}
 use Rattle.cf_print.specs.Names.{new_name}
 use Rattle.cf_print_line.specs.Heads.{all_parameters, part_opening, part_closing}
 use Rattle.cf_print_line.specs.Layout.{line, let_lines, read_lines, comment_text, none_text, next_text, fall_lines, if_text, guard_text, end_lines, guard_end, else_lines, scope_lines, search_text, give_lines, call_lines}
-use Rattle.cf_print_block.specs.Places.{Setting, table, words, deeper, leaving_by, behind_arm, outputs_at, giving_of, giving, Draft, put, taking, freed, given, variable, first_at_hand, behind_one, behind, ahead, Held, Wish, nth_wish, wish_at}
+use Rattle.cf_print_block.specs.Places.{Setting, table, words, deeper, leaving_by, behind_arm, outputs_at, giving_of, giving, Draft, put, taking, freed, given, variable, first_at_hand, behind_one, behind, ahead, Held, Wish, wish_at}
 use Rattle.cf_print_shape.specs.Shapes.{number_of, is_none, is_leave, exit_of, gives, is_straight, can_fall, is_plain, block_reads, those_read, results_of}
 use Rattle.cf_print_shape.specs.Wishes.{given_at}
 use Rattle.cf_print.specs.declared.language.Language.{Language}
@@ -40,30 +40,34 @@ unfoldable pub with_variable : Setting → ℕ → Wish → AtHand → Held → 
 with_variable s depth wish v h =
     if v.is_variable then with_value v (put (read_lines s.language depth wish.is_read v.text) h.draft) h else with_let s depth wish v h
 
--- the values from the k-th on, behind those that have variables
-abbrev pub in_variables : Setting → ℕ → (ℕ → Wish) → ℕ → List AtHand → Held → Held
-in_variables s depth wish k [] h = h
-in_variables s depth wish k (v ∷ vs) h = in_variables s depth wish (suc k) vs (with_variable s depth (wish k) v h)
+-- values in variables, each by the same wish, behind those that have variables
+abbrev pub in_variables : Setting → ℕ → Wish → List AtHand → Held → Held
+in_variables s depth wish [] h = h
+in_variables s depth wish (v ∷ vs) h = in_variables s depth wish vs (with_variable s depth wish v h)
 
 abbrev pub no_values : Draft → Held
 no_values d = record { values = []; draft = d }
 
-unfoldable pub all_in_variables : Setting → ℕ → (ℕ → Wish) → Held → Held
-all_in_variables s depth wish h = in_variables s depth wish 0 h.values (no_values h.draft)
+unfoldable pub all_in_variables : Setting → ℕ → Wish → Held → Held
+all_in_variables s depth wish h = in_variables s depth wish h.values (no_values h.draft)
 
--- of the k-th value that a block gets behind the variables from x on
-abbrev pub wish_in : Setting → Place → ℕ → Block → ℕ → Wish
-wish_in s p x b k = record { name = wish_at (outputs_at s p.giving) (given_at 0 b (x + k)); is_read = block_reads (x + k) b }
+abbrev pub no_wish : Wish
+no_wish = record { name = None; is_read = true }
 
-abbrev pub no_wish : ℕ → Wish
-no_wish k = record { name = None; is_read = true }
+abbrev pub never_read : Wish
+never_read = record { name = None; is_read = false }
 
-abbrev pub never_read : ℕ → Wish
-never_read k = record { name = None; is_read = false }
+-- of a value that a block gets as the variable x
+abbrev pub wish_for : Setting → Place → Block → ℕ → Wish
+wish_for s p b x = record { name = wish_at (outputs_at s p.giving) (given_at 0 b x); is_read = block_reads x b }
 
--- values for a block that reads them as the variables from x on
+-- values in variables, which are those of a block from x on
+abbrev pub as_variables : Setting → Place → Block → ℕ → List AtHand → Held → Held
+as_variables s p b x [] h = h
+as_variables s p b x (v ∷ vs) h = as_variables s p b (suc x) vs (with_variable s p.depth (wish_for s p b x) v h)
+
 unfoldable pub bound_for : Setting → Place → ℕ → Block → Held → Held
-bound_for s p x b h = all_in_variables s p.depth (wish_in s p x b) h
+bound_for s p x b h = as_variables s p b x h.values (no_values h.draft)
 
 -- values stay as they are where no statement comes between
 unfoldable pub kept : Setting → ℕ → Bool → Held → Held
@@ -94,8 +98,8 @@ pointer_wish (Some o) = codes "out_" ++ o
 
 -- the wish for the k-th name of some variables, where these are asked
 abbrev pub role_wish : Role → List (List ℕ) → ℕ → Option (List ℕ)
-role_wish AValue asked k = nth_wish asked k
-role_wish Pointer asked k = Some (pointer_wish (nth_wish asked k))
+role_wish AValue asked k = slice_get asked k
+role_wish Pointer asked k = Some (pointer_wish (slice_get asked k))
 
 -- names for variables of these bases, from the k-th on
 abbrev pub names_for : Setting → Role → List (List ℕ) → ℕ → List Base → List (List ℕ) → List (List ℕ)
@@ -245,11 +249,12 @@ plain_arm s p None body later d =
     let ended = body (arm_place s.language p) (put (scope_lines s.language p.depth) (put (arm_lines s.language p None) d)) in
     later (behind_arm p) (put (end_lines s.language p.depth) (freed (length d.taken) ended))
 
-abbrev pub search_wish : ℕ → Option (List ℕ)
-search_wish zero = Some (codes "i")
-search_wish (suc zero) = Some (codes "j")
-search_wish (suc (suc zero)) = Some (codes "k")
-search_wish j = Some (codes "k" ++ decimal j)
+-- what the variable of the j-th search is named after: i, j, k, k3 and so on
+abbrev pub search_letter : ℕ → List ℕ
+search_letter j = if nat_eq j 0 then codes "i" else if nat_eq j 1 then codes "j" else codes "k"
+
+abbrev pub search_name : ℕ → List ℕ
+search_name j = search_letter j ++ (if nat_lt 2 j then decimal j else [])
 
 -- the loops of searches below these bounds: the draft in them, what is known in them, and how deep they are
 pub record Loops : Type 0 where
@@ -260,10 +265,10 @@ pub record Loops : Type 0 where
 -- one loop more, for the j-th search
 unfoldable pub with_loop : Setting → ℕ → ℕ → Loops → Loops
 with_loop s j k l =
-    let name = new_name (words s) l.draft.taken Int (search_wish j) in
+    let name = new_name (words s) l.draft.taken Int (Some (search_name j)) in
     record {
       draft = taking name (put (line s.language l.depth (search_text s.language name k)) l.draft);
-      sight = behind_one l.sight (variable (table s) Int (between (pos 0) (pos (pred k))) name);
+      sight = behind_one l.sight (variable (table s) Int (between (pos 0) (pos (k - 1))) name);
       depth = suc l.depth;
     }
 

@@ -1,5 +1,5 @@
 //! What is printed, and the names that it wishes for.
-ghost use Rattle.std.specs.Prelude.{◌≡◌, drop};
+ghost use Rattle.std.specs.Prelude.{◌≡◌};
 ghost use Rattle.cf_print_block.specs.PrinterView.{outputs_in};
 ghost use Rattle.cf_print_block.specs.Places.{giving as giving_at, outputs_at, table, words as reserved};
 ghost use Rattle.cf_print_block.specs.PrinterView.{setting_in};
@@ -49,7 +49,7 @@ fn names_of(outputs: &[Outputs], number: u32) -> &[Text]
 {
     for choose in outputs {
         if choose.number == number {
-            return &choose.names;
+            return choose.names.as_slice();
         }
     }
     &[]

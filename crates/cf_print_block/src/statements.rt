@@ -61,19 +61,19 @@ pub fn put_block(
             }
             let first = in_place(printer, &scope, a, place, draft)?;
             let level = to_u32(scope.names.len())?;
-            let Held { values, draft } = bound_for(printer, place, level, b, first)?;
-            let inner = behind(printer.alloc, scope, &values)?;
-            put_block(printer, inner, b, place, draft)
+            let bound = bound_for(printer, place, level, b, first)?;
+            let inner = behind(printer.alloc, scope, &bound.values)?;
+            put_block(printer, inner, b, place, bound.draft)
         }
         Block::Part(a, b) => {
             if !gives(a) {
                 return put_block(printer, scope, a, place, draft);
             }
             let first = in_place(printer, &scope, a, place, draft)?;
-            let Held { values, draft } = bound_for(printer, place, 0, b, first)?;
-            let value = first_of(printer.alloc, values);
+            let bound = bound_for(printer, place, 0, b, first)?;
+            let value = first_of(printer.alloc, &bound.values)?;
             let inner = ahead(printer.alloc, &value, scope)?;
-            put_block(printer, inner, b, place, draft)
+            put_block(printer, inner, b, place, bound.draft)
         }
         Block::Join(_, _) => put_joined(printer, scope, block, place, draft),
         Block::Test { test, .. } => {
@@ -137,9 +137,9 @@ fn both(
     match block {
         Block::Join(a, b) => {
             let first = in_place(printer, scope, a, place, draft)?;
-            let Held { values, draft } = kept(printer, place.depth, is_plain(b), first)?;
-            let second = in_place(printer, scope, b, place, draft)?;
-            joined(values, second)
+            let before = kept(printer, place.depth, is_plain(b), first)?;
+            let second = in_place(printer, scope, b, place, before.draft)?;
+            joined(before.values, second)
         }
         // for the proof: no other form comes here
         _ => Err(NoMemory),
@@ -161,7 +161,7 @@ fn put_tested(
     match block {
         Block::Test { yes, no, .. } => {
             let Held { values, draft } = condition;
-            let value = first_of(printer.alloc, values);
+            let value = first_of(printer.alloc, &values)?;
             match exit_of(place.exit, no) {
                 Some(exit) => {
                     let behind = put_guard(printer, place, &value.denied, exit, draft)?;
@@ -287,18 +287,14 @@ fn searched_arm(
                 scope: scope.try_copy(printer.alloc)?,
                 depth: place.depth,
             };
-            let Loops {
-                draft,
-                scope: inner,
-                depth,
-            } = loops_of(printer, bounds, outside)?;
+            let inside = loops_of(printer, bounds, outside)?;
             let at = Place {
-                depth,
+                depth: inside.depth,
                 exit: Exit::GoesOn,
                 arms: 0,
                 giving: place.giving,
             };
-            let ended = put_block(printer, inner, body, at, draft)?;
+            let ended = put_block(printer, inside.scope, body, at, inside.draft)?;
             let behind = put_loop_ends(printer, place, bounds.len(), ended.freed(count))?;
             put_block(printer, scope, later, behind_arm(place)?, behind)
         }
@@ -392,16 +388,16 @@ fn held_inside(
         Block::Bind(a, b) => {
             let first = in_place(printer, &scope, a, place, draft)?;
             let level = to_u32(scope.names.len())?;
-            let Held { values, draft } = bound_for(printer, place, level, b, first)?;
-            let inner = behind(printer.alloc, scope, &values)?;
-            held_inside(printer, inner, b, place, draft)
+            let bound = bound_for(printer, place, level, b, first)?;
+            let inner = behind(printer.alloc, scope, &bound.values)?;
+            held_inside(printer, inner, b, place, bound.draft)
         }
         Block::Part(a, b) => {
             let first = in_place(printer, &scope, a, place, draft)?;
-            let Held { values, draft } = bound_for(printer, place, 0, b, first)?;
-            let value = first_of(printer.alloc, values);
+            let bound = bound_for(printer, place, 0, b, first)?;
+            let value = first_of(printer.alloc, &bound.values)?;
             let inner = ahead(printer.alloc, &value, scope)?;
-            held_inside(printer, inner, b, place, draft)
+            held_inside(printer, inner, b, place, bound.draft)
         }
         Block::Join(_, _) => both(printer, &scope, block, place, draft),
         Block::Test { test, .. } => {
@@ -431,7 +427,7 @@ fn guarded(
     match block {
         Block::Test { yes, no, .. } => {
             let Held { values, draft } = condition;
-            let value = first_of(printer.alloc, values);
+            let value = first_of(printer.alloc, &values)?;
             match exit_of(place.exit, no) {
                 Some(exit) => {
                     let behind = put_guard(printer, place, &value.denied, exit, draft)?;
