@@ -115,7 +115,7 @@ fn put_joined(
                 let behind = never_read(printer, place.depth, first)?;
                 return put_block(printer, scope, b, place, behind);
             }
-            let held = both(printer, &scope, block, place, draft)?;
+            let held = both_held(printer, &scope, block, place, draft)?;
             give_back(printer, place, held)
         }
         // for the proof: no other form comes here
@@ -125,7 +125,7 @@ fn put_joined(
 
 // The values of two blocks that are joined.
 #[cycle(block)]
-fn both(
+fn both_held(
     printer: &Printer<'_>,
     scope: &Scope,
     block: &Block,
@@ -399,7 +399,7 @@ fn held_inside(
             let inner = ahead(printer.alloc, &value, scope)?;
             held_inside(printer, inner, b, place, bound.draft)
         }
-        Block::Join(_, _) => both(printer, &scope, block, place, draft),
+        Block::Join(_, _) => both_held(printer, &scope, block, place, draft),
         Block::Test { test, .. } => {
             let condition = in_place(printer, &scope, test, place, draft)?;
             guarded(printer, scope, block, place, condition)
