@@ -140,11 +140,6 @@ pub record Held : Type 0 where
 
 -- ---- wishes
 
--- the name that a value wishes for, and whether statements read it
-pub record Wish : Type 0 where
-  pub name : Option (List ℕ)
-  pub is_read : Bool
-
 -- the name at a place, where there is one
 abbrev pub wish_at : List (List ℕ) → Option ℕ → Option (List ℕ)
 wish_at names None = None

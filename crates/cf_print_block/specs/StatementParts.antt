@@ -7,11 +7,14 @@ use Rattle.cf_print_block.specs.Statements.{block, held, in_place, kept, joined_
 use Rattle.cf_print_block.specs.declared.place.Place.{Place}
 use Rattle.cf_print_block.specs.declared.values.AtHand.{AtHand}
 
+-- values, and those of a block behind them
+abbrev pub second_behind : Setting → Sight → Block → Place → Held → Held
+second_behind s w b p h = joined_held h (in_place s p w b (held s w b) (block s w b) h.draft)
+
 -- the values of both blocks that are joined
 abbrev pub both_in : Setting → Sight → Block → Place → Draft → Held
 both_in s w (join a b) p d =
-    let h = kept s p.depth (is_plain b) (in_place s p w a (held s w a) (block s w a) d) in
-    joined_held h (in_place s p w b (held s w b) (block s w b) h.draft)
+    second_behind s w b p (kept s p.depth (is_plain b) (in_place s p w a (held s w a) (block s w a) d))
 both_in s w b p d = no_values d
 
 -- a test whose condition is at hand

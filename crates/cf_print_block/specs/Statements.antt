@@ -8,7 +8,7 @@ use Rattle.cf_print_term.specs.Expressions.{Sight}
 use Rattle.cf_print.specs.Names.{new_name}
 use Rattle.cf_print_line.specs.Heads.{all_parameters, part_opening, part_closing}
 use Rattle.cf_print_line.specs.Layout.{line, let_lines, read_lines, comment_text, none_text, next_text, fall_lines, if_text, guard_text, end_lines, guard_end, else_lines, scope_lines, search_text, give_lines, call_lines}
-use Rattle.cf_print_block.specs.Places.{Setting, table, words, deeper, leaving_by, behind_arm, outputs_at, giving_of, giving, Draft, put, taking, freed, given, variable, first_at_hand, behind_one, behind, ahead, Held, Wish, wish_at}
+use Rattle.cf_print_block.specs.Places.{Setting, table, words, deeper, leaving_by, behind_arm, outputs_at, giving_of, giving, Draft, put, taking, freed, given, variable, first_at_hand, behind_one, behind, ahead, Held, wish_at}
 use Rattle.cf_print_shape.specs.Shapes.{number_of, is_none, is_leave, exit_of, gives, is_straight, can_fall, is_plain, block_reads, those_read, results_of}
 use Rattle.cf_print_shape.specs.Wishes.{given_at}
 use Rattle.cf_print.specs.declared.language.Language.{Language}
@@ -19,6 +19,8 @@ use Rattle.cf_print_block.specs.declared.place.Place.{Place}
 use Rattle.cf_print_block.specs.declared.naming.Role.{Role}
 use Rattle.cf_print_block.specs.declared.naming.Role.TheVariants.{Value as AValue, Pointer}
 use Rattle.cf_print_block.specs.declared.values.AtHand.{AtHand}
+use Rattle.cf_print_block.specs.declared.values.Wish.{Wish}
+use Rattle.cf_print_block.specs.declared.searches.Loops.{Loops}
 
 -- ---- values in variables
 
@@ -256,22 +258,17 @@ search_letter j = if nat_eq j 0 then codes "i" else if nat_eq j 1 then codes "j"
 abbrev pub search_name : ℕ → List ℕ
 search_name j = search_letter j ++ (if nat_lt 2 j then decimal j else [])
 
--- the loops of searches below these bounds: the draft in them, what is known in them, and how deep they are
-pub record Loops : Type 0 where
-  pub draft : Draft
-  pub sight : Sight
-  pub depth : ℕ
-
 -- one loop more, for the j-th search
 unfoldable pub with_loop : Setting → ℕ → ℕ → Loops → Loops
 with_loop s j k l =
     let name = new_name (words s) l.draft.taken Int (Some (search_name j)) in
     record {
       draft = taking name (put (line s.language l.depth (search_text s.language name k)) l.draft);
-      sight = behind_one l.sight (variable (table s) Int (between (pos 0) (pos (k - 1))) name);
+      scope = behind_one l.scope (variable (table s) Int (between (pos 0) (pos (k - 1))) name);
       depth = suc l.depth;
     }
 
+-- the loops of searches below these bounds
 abbrev pub loops_of : Setting → ℕ → List ℕ → Loops → Loops
 loops_of s j [] l = l
 loops_of s j (k ∷ ks) l = loops_of s (suc j) ks (with_loop s j k l)
@@ -282,8 +279,8 @@ loop_ends l depth (suc n) = end_lines l (depth + n) ++ loop_ends l depth n
 
 unfoldable pub searched_arm : Setting → Place → Sight → List ℕ → Option ℕ → (Sight → Place → Draft → Draft) → (Place → Draft → Draft) → Draft → Draft
 searched_arm s p w ks last body later d =
-    let l = loops_of s 0 ks (record { draft = put (arm_lines s.language p last) d; sight = w; depth = p.depth }) in
-    let ended = body l.sight (record { depth = l.depth; exit = GoesOn; arms = 0; giving = p.giving }) l.draft in
+    let l = loops_of s 0 ks (record { draft = put (arm_lines s.language p last) d; scope = w; depth = p.depth }) in
+    let ended = body l.scope (record { depth = l.depth; exit = GoesOn; arms = 0; giving = p.giving }) l.draft in
     later (behind_arm p) (put (loop_ends s.language p.depth (length ks)) (freed (length d.taken) ended))
 
 -- ---- blocks

@@ -18,7 +18,6 @@ use cf_print_term::Scope;
 use cf_range::Range;
 use cf_tree::{Base, NoMemory, Text, put_number};
 use std::alloc::Global;
-use std::marker::Model;
 
 /// The draft in some loops, what is known in them, and how deep they are.
 #[derive(Drop)]
@@ -26,14 +25,6 @@ pub(crate) struct Loops {
     pub draft: Draft,
     pub scope: Scope,
     pub depth: usize,
-}
-
-impl Model for Loops {
-    ghost use Rattle.cf_print_block.specs.Statements.{Loops as Opened};
-
-    ghost Value = { Opened };
-
-    ghost view = { λ l. record { draft = l.draft; sight = l.scope; depth = l.depth } };
 }
 
 // What the variable of the j-th search is named after.

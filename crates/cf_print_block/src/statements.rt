@@ -4,25 +4,26 @@ ghost use Rattle.cf_tree.specs.CodeView.{code_tree};
 ghost use Rattle.cf_stmt.specs.BlockView.{block_tree};
 ghost use Rattle.cf_print_block.specs.Places.{given as values_given, table};
 ghost use Rattle.cf_print_block.specs.PrinterView.{setting_in};
-ghost use Rattle.cf_print_block.specs.StatementParts.{both_in, branched_in, guarded_in, plain_arm_in, searched_arm_in, tested_in};
+ghost use Rattle.cf_print_block.specs.StatementParts.{both_in, branched_in, guarded_in, plain_arm_in, searched_arm_in, second_behind, tested_in};
 ghost use Rattle.cf_print_block.specs.Statements.{block as block_draft, called as values_called, exit_lines, held as values_held, in_place as values_in_place};
 
 use crate::draft::Draft;
 use crate::function::{Outer, begun, function_of, inside, results_held};
+use crate::inner::{bound_ahead, bound_behind};
 use crate::lines::{
     give_back, put_arm, put_else, put_end, put_exit, put_guard, put_if, put_loop_ends, put_scope,
 };
 use crate::place::{Place, arm_place, behind_arm, deeper, leaving_by};
 use crate::printer::{Printer, giving};
 use crate::searches::{Loops, loops_of};
-use crate::values::{AtHand, ahead, behind, first_of, given};
-use crate::variables::{Held, bound_for, joined, kept, never_read, no_values};
+use crate::values::{AtHand, first_of, given};
+use crate::variables::{Held, joined, kept, never_read, no_values};
 use cf_print_shape::{
     Exit, can_fall, exit_of, gives, is_leave, is_none, is_plain, is_straight, number_of,
 };
 use cf_print_term::Scope;
 use cf_stmt::Block;
-use cf_tree::{Code, NoMemory, to_u32};
+use cf_tree::{Code, NoMemory};
 
 // The values of a code, and the draft as it is.
 fn held_of(
@@ -60,20 +61,16 @@ pub fn put_block(
                 return put_block(printer, scope, a, place, draft);
             }
             let first = in_place(printer, &scope, a, place, draft)?;
-            let level = to_u32(scope.names.len())?;
-            let bound = bound_for(printer, place, level, b, first)?;
-            let inner = behind(printer.alloc, scope, &bound.values)?;
-            put_block(printer, inner, b, place, bound.draft)
+            let inner = bound_behind(printer, place, scope, b, first)?;
+            put_block(printer, inner.scope, b, place, inner.draft)
         }
         Block::Part(a, b) => {
             if !gives(a) {
                 return put_block(printer, scope, a, place, draft);
             }
             let first = in_place(printer, &scope, a, place, draft)?;
-            let bound = bound_for(printer, place, 0, b, first)?;
-            let value = first_of(printer.alloc, &bound.values)?;
-            let inner = ahead(printer.alloc, &value, scope)?;
-            put_block(printer, inner, b, place, bound.draft)
+            let inner = bound_ahead(printer, place, scope, b, first)?;
+            put_block(printer, inner.scope, b, place, inner.draft)
         }
         Block::Join(_, _) => put_joined(printer, scope, block, place, draft),
         Block::Test { test, .. } => {
@@ -138,12 +135,27 @@ fn both_held(
         Block::Join(a, b) => {
             let first = in_place(printer, scope, a, place, draft)?;
             let before = kept(printer, place.depth, is_plain(b), first)?;
-            let second = in_place(printer, scope, b, place, before.draft)?;
-            joined(before.values, second)
+            with_second(printer, scope, b, place, before)
         }
         // for the proof: no other form comes here
         _ => Err(NoMemory),
     }
+}
+
+// The values of a block behind others.
+#[cycle(block)]
+fn with_second(
+    printer: &Printer<'_>,
+    scope: &Scope,
+    block: &Block,
+    place: Place,
+    before: Held,
+) -> Result<Held, NoMemory>
+    ensures { IfOk result (λ h. h ≡ second_behind (setting_in printer.now) scope.now (block_tree block.now) place before) }
+{
+    let Held { values, draft } = before;
+    let second = in_place(printer, scope, block, place, draft)?;
+    joined(values, second)
 }
 
 // A test whose condition is at hand: a side that only leaves is a guard.
@@ -387,17 +399,13 @@ fn held_inside(
         Block::Stop(_) | Block::Leave => Ok(no_values(printer.alloc, draft)),
         Block::Bind(a, b) => {
             let first = in_place(printer, &scope, a, place, draft)?;
-            let level = to_u32(scope.names.len())?;
-            let bound = bound_for(printer, place, level, b, first)?;
-            let inner = behind(printer.alloc, scope, &bound.values)?;
-            held_inside(printer, inner, b, place, bound.draft)
+            let inner = bound_behind(printer, place, scope, b, first)?;
+            held_inside(printer, inner.scope, b, place, inner.draft)
         }
         Block::Part(a, b) => {
             let first = in_place(printer, &scope, a, place, draft)?;
-            let bound = bound_for(printer, place, 0, b, first)?;
-            let value = first_of(printer.alloc, &bound.values)?;
-            let inner = ahead(printer.alloc, &value, scope)?;
-            held_inside(printer, inner, b, place, bound.draft)
+            let inner = bound_ahead(printer, place, scope, b, first)?;
+            held_inside(printer, inner.scope, b, place, inner.draft)
         }
         Block::Join(_, _) => both_held(printer, &scope, block, place, draft),
         Block::Test { test, .. } => {

@@ -24,6 +24,13 @@ pub(crate) struct AtHand {
     pub range: Range,
 }
 
+/// The name that a value wishes for, and whether statements read it.
+#[derive(Drop)]
+pub(crate) struct Wish {
+    pub name: Option<Text>,
+    pub is_read: bool,
+}
+
 // The text of a term.
 fn text_of(alloc: Global, term: &Term) -> Result<Text, NoMemory>
     ensures { IfOk result (λ t. t ≡ text (term_tree term.now)) }

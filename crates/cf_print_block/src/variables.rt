@@ -10,7 +10,7 @@ ghost use Rattle.cf_print_block.specs.Statements.{all_in_variables as all_of_the
 use crate::draft::{Draft, put_let, put_read};
 use crate::place::Place;
 use crate::printer::{Printer, outputs_of, words_in};
-use crate::values::{AtHand, variable, wish_at};
+use crate::values::{AtHand, Wish, variable, wish_at};
 use cf_print::new_name;
 use cf_print_shape::{block_reads, given_at, next_level};
 use cf_stmt::Block;
@@ -31,21 +31,6 @@ impl Model for Held {
     ghost Value = { HeldValues };
 
     ghost view = { λ h. record { values = h.values.items; draft = h.draft } };
-}
-
-/// The name that a value wishes for, and whether statements read it.
-#[derive(Drop)]
-pub(crate) struct Wish {
-    pub name: Option<Text>,
-    pub is_read: bool,
-}
-
-impl Model for Wish {
-    ghost use Rattle.cf_print_block.specs.Places.{Wish as Wished};
-
-    ghost Value = { Wished };
-
-    ghost view = { λ w. record { name = w.name; is_read = w.is_read } };
 }
 
 /// No values.
@@ -277,7 +262,13 @@ pub(crate) fn never_read(printer: &Printer<'_>, depth: usize, held: Held) -> Res
         is_read: false,
     };
     let bound = all_in_variables(printer, depth, &wish, held)?;
-    Ok(bound.draft)
+    Ok(draft_of(bound))
+}
+
+fn draft_of(held: Held) -> Draft
+    ensures { result ≡ held.draft }
+{
+    held.draft
 }
 
 /// Values with others behind them.
