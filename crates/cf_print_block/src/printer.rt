@@ -49,7 +49,7 @@ fn names_of(outputs: &[Outputs], number: u32) -> &[Text]
 {
     for choose in outputs {
         if choose.number == number {
-            return choose.names.as_slice();
+            return &choose.names;
         }
     }
     &[]
