@@ -11,6 +11,7 @@ use Rattle.cf_print_term.specs.Marks.{mark_text}
 use Rattle.cf_print_term.specs.Expressions.{Sight, base_of, term_of, opposite_of, denied}
 use Rattle.cf_print_term.specs.Rows.{table_of}
 use Rattle.cf_print.specs.Words.{words_of}
+use Rattle.cf_print.specs.Names.{new_name}
 use Rattle.cf_print.specs.declared.language.Language.{Language}
 use Rattle.cf_print_term.specs.declared.table.Table.{Table}
 use Rattle.cf_print_shape.specs.declared.exit.Exit.{Exit}
@@ -30,6 +31,10 @@ table s = table_of s.language
 
 abbrev pub words : Setting → List ℕ
 words s = words_of s.language
+
+-- a new name for a value of a base
+unfoldable pub name_in : Setting → List (List ℕ) → Base → Option (List ℕ) → List ℕ
+name_in s taken b wish = new_name (words s) taken b wish
 
 -- ---- places
 

@@ -5,10 +5,9 @@ use Rattle.cf_tree.specs.declared.base.Base.TheVariants.{Int}
 use Rattle.cf_range.specs.Ranges.{between, whole}
 use Rattle.cf_stmt.specs.Blocks.{Block, give, none, leave, bind, part, join, test, arm}
 use Rattle.cf_print_term.specs.Expressions.{Sight}
-use Rattle.cf_print.specs.Names.{new_name}
 use Rattle.cf_print_line.specs.Heads.{all_parameters, part_opening, part_closing}
 use Rattle.cf_print_line.specs.Layout.{line, let_lines, read_lines, comment_text, none_text, next_text, fall_lines, if_text, guard_text, end_lines, guard_end, else_lines, scope_lines, search_text, give_lines, call_lines}
-use Rattle.cf_print_block.specs.Places.{Setting, table, words, deeper, leaving_by, behind_arm, outputs_at, giving_of, giving, Draft, put, taking, freed, given, variable, first_at_hand, behind_one, behind, ahead, Held, wish_at}
+use Rattle.cf_print_block.specs.Places.{Setting, table, name_in, deeper, leaving_by, behind_arm, outputs_at, giving_of, giving, Draft, put, taking, freed, given, variable, first_at_hand, behind_one, behind, ahead, Held, wish_at}
 use Rattle.cf_print_shape.specs.Shapes.{number_of, is_none, is_leave, exit_of, gives, is_straight, can_fall, is_plain, block_reads, those_read, results_of}
 use Rattle.cf_print_shape.specs.Wishes.{given_at}
 use Rattle.cf_print.specs.declared.language.Language.{Language}
@@ -34,7 +33,7 @@ with_value v d h = record { values = h.values ++ (v ∷ []); draft = d }
 -- a value gets a variable, if it is none
 unfoldable pub with_let : Setting → ℕ → Wish → AtHand → Held → Held
 with_let s depth wish v h =
-    let name = new_name (words s) h.draft.taken v.base wish.name in
+    let name = name_in s h.draft.taken v.base wish.name in
     with_value (variable (table s) v.base v.range name)
     (taking name (put (let_lines s.language depth wish.is_read v.base name v.text) h.draft)) h
 
@@ -107,7 +106,7 @@ role_wish Pointer asked k = Some (pointer_wish (slice_get asked k))
 abbrev pub names_for : Setting → Role → List (List ℕ) → ℕ → List Base → List (List ℕ) → List (List ℕ)
 names_for s r asked k [] taken = []
 names_for s r asked k (b ∷ bs) taken =
-    let name = new_name (words s) taken b (role_wish r asked k) in name ∷ names_for s r asked (suc k) bs (taken ++ (name ∷ []))
+    let name = name_in s taken b (role_wish r asked k) in name ∷ names_for s r asked (suc k) bs (taken ++ (name ∷ []))
 
 -- in C a pointer for each result
 abbrev pub has_pointers : Language → Bool
@@ -164,7 +163,7 @@ variables s _ _ = []
 unfoldable pub results_held : Setting → ℕ → Function → List ℕ → List (List ℕ) → List (List ℕ) → Draft → Held
 results_held s depth f lines pointers taken done =
     let names = names_for s AValue (outputs_at s (giving_of f.number)) 0 f.results taken in
-    let status = new_name (words s) (taken ++ names) Int (Some (codes "status")) in
+    let status = name_in s (taken ++ names) Int (Some (codes "status")) in
     record {
       values = variables s names f.results;
       draft = record {
@@ -261,7 +260,7 @@ search_name j = search_letter j ++ (if nat_lt 2 j then decimal j else [])
 -- one loop more, for the j-th search
 unfoldable pub with_loop : Setting → ℕ → ℕ → Loops → Loops
 with_loop s j k l =
-    let name = new_name (words s) l.draft.taken Int (Some (search_name j)) in
+    let name = name_in s l.draft.taken Int (Some (search_name j)) in
     record {
       draft = taking name (put (line s.language l.depth (search_text s.language name k)) l.draft);
       scope = behind_one l.scope (variable (table s) Int (between (pos 0) (pos (k - 1))) name);

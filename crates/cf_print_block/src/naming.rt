@@ -1,7 +1,6 @@
 //! The names of functions, of results and of pointers to them.
 ghost use Rattle.std.specs.Prelude.{◌≡◌, suc, if◌then◌else◌, IfOk};
-ghost use Rattle.cf_print.specs.Names.{new_name};
-ghost use Rattle.cf_print_block.specs.Places.{words};
+ghost use Rattle.cf_print_block.specs.Places.{name_in};
 ghost use Rattle.cf_print_block.specs.PrinterView.{setting_in};
 ghost use Rattle.cf_print_block.specs.Statements.{first_name as first_name_of, function_name as function_named, has_pointers as has_pointers_in, names_for as names_wished, numbered_name as nth_name_of, pointer_wish as wish_of_pointer, pointers_for as pointers_wished, role_wish as wish_of_role, times_in as times_among};
 
@@ -108,7 +107,7 @@ fn name_for(
     base: Base,
     taken: &[Text],
 ) -> Result<Text, NoMemory>
-    ensures { IfOk result (λ name. name ≡ new_name (words (setting_in printer.now)) taken.now base (wish_of_role role asked.now k)) }
+    ensures { IfOk result (λ name. name ≡ name_in (setting_in printer.now) taken.now base (wish_of_role role asked.now k)) }
 {
     let wish = role_wish(printer.alloc, role, asked, k)?;
     named(printer, taken, base, &wish)

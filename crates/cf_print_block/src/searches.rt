@@ -2,9 +2,8 @@
 ghost use Rattle.std.specs.Prelude.{◌≡◌, ◌-◌, Some, IfOk, pos};
 ghost use Rattle.cf_tree.specs.declared.base.Base.TheVariants.{Int};
 ghost use Rattle.cf_range.specs.Ranges.{between};
-ghost use Rattle.cf_print.specs.Names.{new_name};
 ghost use Rattle.cf_print_line.specs.Layout.{line, search_text};
-ghost use Rattle.cf_print_block.specs.Places.{put, words};
+ghost use Rattle.cf_print_block.specs.Places.{name_in, put};
 ghost use Rattle.cf_print_block.specs.PrinterView.{setting_in};
 ghost use Rattle.cf_print_block.specs.Statements.{loops_of as loops_for, search_letter as letter_of_search, search_name as name_of_search, with_loop as one_loop_more};
 
@@ -52,7 +51,7 @@ fn search_name(alloc: Global, j: usize) -> Result<Text, NoMemory>
 
 // The name of the variable of the j-th search.
 fn search_variable(printer: &Printer<'_>, taken: &[Text], j: usize) -> Result<Text, NoMemory>
-    ensures { IfOk result (λ name. name ≡ new_name (words (setting_in printer.now)) taken.now Int (Some (name_of_search j))) }
+    ensures { IfOk result (λ name. name ≡ name_in (setting_in printer.now) taken.now Int (Some (name_of_search j))) }
 {
     let wish = search_name(printer.alloc, j)?;
     named_after(printer, taken, Base::Int, &wish.bytes)

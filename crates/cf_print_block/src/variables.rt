@@ -1,9 +1,8 @@
 //! Values that get variables.
-ghost use Rattle.std.specs.Prelude.{◌≡◌, ◌++◌, ◌∷◌, [], Some, IfOk};
+ghost use Rattle.std.specs.Prelude.{◌≡◌, ◌++◌, ◌∷◌, [], Some, None, IfOk};
 ghost use Rattle.cf_stmt.specs.BlockView.{block_tree};
-ghost use Rattle.cf_print.specs.Names.{new_name as free_name};
 ghost use Rattle.cf_print_line.specs.Layout.{read_lines};
-ghost use Rattle.cf_print_block.specs.Places.{put, table, words};
+ghost use Rattle.cf_print_block.specs.Places.{name_in, put};
 ghost use Rattle.cf_print_block.specs.PrinterView.{setting_in};
 ghost use Rattle.cf_print_block.specs.Statements.{all_in_variables as all_of_them, as_variables as those_as_variables, bound_for as bound_for_block, in_variables as those_in_variables, kept as kept_or_not, never_read as no_reader, no_values as without_values, with_let as with_a_let, with_value as with_one_value, with_variable as with_a_variable, wish_for as wish_of};
 
@@ -44,15 +43,26 @@ pub(crate) fn no_values(alloc: Global, draft: Draft) -> Held
 }
 
 /// A new name, where this one is wished for.
+#[tactic(auto, unfolding(crate::specs::Places::name_in))]
 pub(crate) fn named_after(
     printer: &Printer<'_>,
     taken: &[Text],
     base: Base,
     wish: &[u8],
 ) -> Result<Text, NoMemory>
-    ensures { IfOk result (λ name. name ≡ free_name (words (setting_in printer.now)) taken.now base (Some wish.now)) }
+    ensures { IfOk result (λ name. name ≡ name_in (setting_in printer.now) taken.now base (Some wish.now)) }
 {
-    new_name(printer.alloc, words_in(printer), taken, base, Some(wish))
+    let name = new_name(printer.alloc, words_in(printer), taken, base, Some(wish))?;
+    Ok(name)
+}
+
+// A new name, where none is wished for.
+#[tactic(auto, unfolding(crate::specs::Places::name_in))]
+fn named_by_base(printer: &Printer<'_>, taken: &[Text], base: Base) -> Result<Text, NoMemory>
+    ensures { IfOk result (λ name. name ≡ name_in (setting_in printer.now) taken.now base None) }
+{
+    let name = new_name(printer.alloc, words_in(printer), taken, base, None)?;
+    Ok(name)
 }
 
 /// A new name for a value.
@@ -62,11 +72,11 @@ pub(crate) fn named(
     base: Base,
     wish: &Option<Text>,
 ) -> Result<Text, NoMemory>
-    ensures { IfOk result (λ name. name ≡ free_name (words (setting_in printer.now)) taken.now base wish.now) }
+    ensures { IfOk result (λ name. name ≡ name_in (setting_in printer.now) taken.now base wish.now) }
 {
     match wish {
         Some(name) => named_after(printer, taken, base, &name.bytes),
-        None => new_name(printer.alloc, words_in(printer), taken, base, None),
+        None => named_by_base(printer, taken, base),
     }
 }
 
