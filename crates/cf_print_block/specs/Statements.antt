@@ -20,6 +20,7 @@ use Rattle.cf_print_block.specs.declared.naming.Role.TheVariants.{Value as AValu
 use Rattle.cf_print_block.specs.declared.values.AtHand.{AtHand}
 use Rattle.cf_print_block.specs.declared.values.Wish.{Wish}
 use Rattle.cf_print_block.specs.declared.searches.Loops.{Loops}
+use Rattle.cf_print_block.specs.declared.inner.Inner.{Inner}
 
 -- ---- values in variables
 
@@ -69,6 +70,13 @@ as_variables s p b x (v ∷ vs) h = as_variables s p b (suc x) vs (with_variable
 
 unfoldable pub bound_for : Setting → Place → ℕ → Block → Held → Held
 bound_for s p x b h = as_variables s p b x h.values (no_values h.draft)
+
+-- a block that gets values behind the variables, or one before them
+unfoldable pub inner_behind : Setting → Place → Sight → Block → Held → Inner
+inner_behind s p w b h = let k = bound_for s p (length w.names) b h in record { scope = behind w k.values; draft = k.draft }
+
+unfoldable pub inner_ahead : Setting → Place → Sight → Block → Held → Inner
+inner_ahead s p w b h = let k = bound_for s p 0 b h in record { scope = ahead (first_at_hand k.values) w; draft = k.draft }
 
 -- values stay as they are where no statement comes between
 unfoldable pub kept : Setting → ℕ → Bool → Held → Held
@@ -211,12 +219,18 @@ arm_lines l p None = arm_comment l p
 
 -- ---- tests: a side that only leaves is a guard
 
+-- behind the first side, whose names are free again, and behind the second
+unfoldable pub first_side : Setting → Place → AtHand → (Place → Draft → Draft) → Draft → Draft
+first_side s p v side d = freed (length d.taken) (side (deeper p) (put (line s.language p.depth (if_text s.language v.text)) d))
+
+unfoldable pub second_side : Setting → Place → ℕ → (Place → Draft → Draft) → Draft → Draft
+second_side s p n side d = freed n (side (deeper p) (put (else_lines s.language p.depth) d))
+
 unfoldable pub branched : Setting → Place → Block → Block → AtHand → (Place → Draft → Draft) → (Place → Draft → Draft) → Draft → Draft
 branched s p a b v yes_side no_side d =
-    let behind_yes = freed (length d.taken) (yes_side (deeper p) (put (line s.language p.depth (if_text s.language v.text)) d)) in
+    let behind_yes = first_side s p v yes_side d in
     if is_leave b then put (end_lines s.language p.depth) behind_yes
-    else if can_fall a
-    then put (end_lines s.language p.depth) (freed (length d.taken) (no_side (deeper p) (put (else_lines s.language p.depth) behind_yes)))
+    else if can_fall a then put (end_lines s.language p.depth) (second_side s p (length d.taken) no_side behind_yes)
     else no_side p (put (end_lines s.language p.depth) behind_yes)
 
 -- what the sides come to that only leave, the second first
@@ -225,16 +239,16 @@ tested_by (Some e) f s p a b v yes_side no_side d = yes_side p (put (guard_lines
 tested_by None (Some e) s p a b v yes_side no_side d = no_side p (put (guard_lines s.language p.depth v.text e) d)
 tested_by None None s p a b v yes_side no_side d = branched s p a b v yes_side no_side d
 
-unfoldable pub tested : Setting → Place → Block → Block → AtHand → (Place → Draft → Draft) → (Place → Draft → Draft) → Draft → Draft
-tested s p a b v yes_side no_side d = tested_by (exit_of p.exit b) (exit_of p.exit a) s p a b v yes_side no_side d
+unfoldable pub tested : Setting → Place → Block → Block → Held → (Place → Draft → Draft) → (Place → Draft → Draft) → Draft
+tested s p a b h yes_side no_side = tested_by (exit_of p.exit b) (exit_of p.exit a) s p a b (first_at_hand h.values) yes_side no_side h.draft
 
 abbrev pub guarded_by : Option Exit → Option Exit → Setting → Place → AtHand → (Place → Draft → Held) → (Place → Draft → Held) → Draft → Held
 guarded_by (Some e) f s p v yes_side no_side d = yes_side p (put (guard_lines s.language p.depth v.denied e) d)
 guarded_by None (Some e) s p v yes_side no_side d = no_side p (put (guard_lines s.language p.depth v.text e) d)
 guarded_by None None s p v yes_side no_side d = no_values d
 
-unfoldable pub guarded : Setting → Place → Block → Block → AtHand → (Place → Draft → Held) → (Place → Draft → Held) → Draft → Held
-guarded s p a b v yes_side no_side d = guarded_by (exit_of p.exit b) (exit_of p.exit a) s p v yes_side no_side d
+unfoldable pub guarded : Setting → Place → Block → Block → Held → (Place → Draft → Held) → (Place → Draft → Held) → Held
+guarded s p a b h yes_side no_side = guarded_by (exit_of p.exit b) (exit_of p.exit a) s p (first_at_hand h.values) yes_side no_side h.draft
 
 -- ---- arms
 
@@ -293,11 +307,11 @@ abbrev mutual
   -- what stands behind a block that never gives is not reached
   block s w (bind a b) p d =
       if gives a
-      then (let h = bound_for s p (length w.names) b (in_place s p w a (held s w a) (block s w a) d) in block s (behind w h.values) b p h.draft)
+      then (let i = inner_behind s p w b (in_place s p w a (held s w a) (block s w a) d) in block s i.scope b p i.draft)
       else block s w a p d
   block s w (part a b) p d =
       if gives a
-      then (let h = bound_for s p 0 b (in_place s p w a (held s w a) (block s w a) d) in block s (ahead (first_at_hand h.values) w) b p h.draft)
+      then (let i = inner_ahead s p w b (in_place s p w a (held s w a) (block s w a) d) in block s i.scope b p i.draft)
       else block s w a p d
   block s w (join a b) p d =
       if gives a
@@ -309,8 +323,7 @@ abbrev mutual
       else block s w a p d
   block s w (test t a b) p d =
       if gives t
-      then (let h = in_place s p w t (held s w t) (block s w t) d in
-      tested s p a b (first_at_hand h.values) (block s w a) (block s w b) h.draft)
+      then tested s p a b (in_place s p w t (held s w t) (block s w t) d) (block s w a) (block s w b)
       else block s w t p d
   block s w (arm ks a b) p d =
       let q = giving s (number_of b) p in
@@ -322,15 +335,13 @@ abbrev mutual
   pub held : Setting → Sight → Block → Place → Draft → Held
   held s w (give c) p d = record { values = given (table s) w c; draft = d }
   held s w (bind a b) p d =
-      let h = bound_for s p (length w.names) b (in_place s p w a (held s w a) (block s w a) d) in held s (behind w h.values) b p h.draft
+      let i = inner_behind s p w b (in_place s p w a (held s w a) (block s w a) d) in held s i.scope b p i.draft
   held s w (part a b) p d =
-      let h = bound_for s p 0 b (in_place s p w a (held s w a) (block s w a) d) in held s (ahead (first_at_hand h.values) w) b p h.draft
+      let i = inner_ahead s p w b (in_place s p w a (held s w a) (block s w a) d) in held s i.scope b p i.draft
   held s w (join a b) p d =
       let h = kept s p.depth (is_plain b) (in_place s p w a (held s w a) (block s w a) d) in
       joined_held h (in_place s p w b (held s w b) (block s w b) h.draft)
-  held s w (test t a b) p d =
-      let h = in_place s p w t (held s w t) (block s w t) d in
-      guarded s p a b (first_at_hand h.values) (held s w a) (held s w b) h.draft
+  held s w (test t a b) p d = guarded s p a b (in_place s p w t (held s w t) (block s w t) d) (held s w a) (held s w b)
   held s w (arm ks a b) p d = held s w a (leaving_by (Ends (number_of b)) (giving s (number_of b) p)) d
   held s w (none n) p d = no_values d
   held s w leave p d = no_values d

@@ -1,9 +1,9 @@
 //! Blocks behind values that are bound.
-ghost use Rattle.std.specs.Prelude.{◌≡◌, length, IfOk};
+ghost use Rattle.std.specs.Prelude.{◌≡◌, IfOk};
 ghost use Rattle.cf_stmt.specs.BlockView.{block_tree};
 ghost use Rattle.cf_print_block.specs.Places.{ahead as one_ahead, behind as those_behind, first_at_hand};
 ghost use Rattle.cf_print_block.specs.PrinterView.{setting_in};
-ghost use Rattle.cf_print_block.specs.Statements.{bound_for as bound_for_block};
+ghost use Rattle.cf_print_block.specs.Statements.{inner_ahead, inner_behind};
 
 use crate::draft::Draft;
 use crate::place::Place;
@@ -42,6 +42,7 @@ fn first_ahead(alloc: Global, scope: Scope, bound: Held) -> Result<Inner, NoMemo
 }
 
 /// A block behind values that it gets behind the variables.
+#[tactic(auto, unfolding(crate::specs::Statements::inner_behind))]
 pub(crate) fn bound_behind(
     printer: &Printer<'_>,
     place: Place,
@@ -49,10 +50,7 @@ pub(crate) fn bound_behind(
     block: &Block,
     held: Held,
 ) -> Result<Inner, NoMemory>
-    ensures { IfOk result (λ i. i ≡ record {
-      scope = those_behind scope (bound_for_block (setting_in printer.now) place (length scope.names) (block_tree block.now) held).values;
-      draft = (bound_for_block (setting_in printer.now) place (length scope.names) (block_tree block.now) held).draft;
-    }) }
+    ensures { IfOk result (λ i. i ≡ inner_behind (setting_in printer.now) place scope (block_tree block.now) held) }
 {
     let level = to_u32(scope.names.len())?;
     let bound = bound_for(printer, place, level, block, held)?;
@@ -60,6 +58,7 @@ pub(crate) fn bound_behind(
 }
 
 /// A block behind a value that it gets before the variables.
+#[tactic(auto, unfolding(crate::specs::Statements::inner_ahead))]
 pub(crate) fn bound_ahead(
     printer: &Printer<'_>,
     place: Place,
@@ -67,10 +66,7 @@ pub(crate) fn bound_ahead(
     block: &Block,
     held: Held,
 ) -> Result<Inner, NoMemory>
-    ensures { IfOk result (λ i. i ≡ record {
-      scope = one_ahead (first_at_hand (bound_for_block (setting_in printer.now) place 0 (block_tree block.now) held).values) scope;
-      draft = (bound_for_block (setting_in printer.now) place 0 (block_tree block.now) held).draft;
-    }) }
+    ensures { IfOk result (λ i. i ≡ inner_ahead (setting_in printer.now) place scope (block_tree block.now) held) }
 {
     let bound = bound_for(printer, place, 0, block, held)?;
     first_ahead(printer.alloc, scope, bound)

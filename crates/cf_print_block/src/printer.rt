@@ -27,6 +27,14 @@ pub struct Printer<'a> {
     pub outputs: &'a [Outputs],
 }
 
+/// The language.
+#[tactic(auto, unfolding(crate::specs::PrinterView::setting_in))]
+pub(crate) fn language_in(printer: &Printer<'_>) -> Language
+    ensures { result ≡ (setting_in printer.now).language }
+{
+    printer.language
+}
+
 /// The expressions of the language.
 #[tactic(auto, unfolding(crate::specs::PrinterView::setting_in))]
 pub(crate) fn table_in(printer: &Printer<'_>) -> Table

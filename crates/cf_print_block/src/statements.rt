@@ -5,7 +5,7 @@ ghost use Rattle.cf_stmt.specs.BlockView.{block_tree};
 ghost use Rattle.cf_print_block.specs.Places.{given as values_given, table};
 ghost use Rattle.cf_print_block.specs.PrinterView.{setting_in};
 ghost use Rattle.cf_print_block.specs.StatementParts.{both_in, branched_in, guarded_in, plain_arm_in, searched_arm_in, second_behind, tested_in};
-ghost use Rattle.cf_print_block.specs.Statements.{block as block_draft, called as values_called, exit_lines, held as values_held, in_place as values_in_place};
+ghost use Rattle.cf_print_block.specs.Statements.{block as block_draft, called as values_called, exit_lines, first_side as behind_first, held as values_held, in_place as values_in_place, second_side as behind_second};
 
 use crate::draft::Draft;
 use crate::function::{Outer, begun, function_of, inside, results_held};
@@ -14,7 +14,7 @@ use crate::lines::{
     give_back, put_arm, put_else, put_end, put_exit, put_guard, put_if, put_loop_ends, put_scope,
 };
 use crate::place::{Place, arm_place, behind_arm, deeper, leaving_by};
-use crate::printer::{Printer, giving};
+use crate::printer::{Printer, giving, language_in};
 use crate::searches::{Loops, loops_of};
 use crate::values::{AtHand, first_of, given};
 use crate::variables::{Held, joined, kept, never_read, no_values};
@@ -209,10 +209,7 @@ fn put_branches(
     match block {
         Block::Test { yes, no, .. } => {
             let count = draft.taken.len();
-            let asked = put_if(printer, place, &condition.text, draft)?;
-            let copy = scope.try_copy(printer.alloc)?;
-            let ended = put_block(printer, copy, yes, deeper(place)?, asked)?;
-            let behind = ended.freed(count);
+            let behind = first_side(printer, &scope, yes, place, &condition, draft)?;
             if is_leave(no) {
                 return put_end(printer, place, behind);
             }
@@ -220,13 +217,52 @@ fn put_branches(
                 let behind = put_end(printer, place, behind)?;
                 return put_block(printer, scope, no, place, behind);
             }
-            let other = put_else(printer, place, behind)?;
-            let ended = put_block(printer, scope, no, deeper(place)?, other)?;
-            put_end(printer, place, ended.freed(count))
+            let ended = second_side(printer, scope, no, place, count, behind)?;
+            put_end(printer, place, ended)
         }
         // for the proof: no other form comes here
         _ => Err(NoMemory),
     }
+}
+
+// The first side of a test, whose names are free again behind it.
+#[cycle(block)]
+#[tactic(auto, unfolding(crate::specs::Statements::first_side))]
+fn first_side(
+    printer: &Printer<'_>,
+    scope: &Scope,
+    block: &Block,
+    place: Place,
+    condition: &AtHand,
+    draft: Draft,
+) -> Result<Draft, NoMemory>
+    ensures { IfOk result (λ d. d ≡ behind_first (setting_in printer.now) place condition.now
+        (block_draft (setting_in printer.now) scope.now (block_tree block.now)) draft) }
+{
+    let count = draft.taken.len();
+    let asked = put_if(printer, place, &condition.text, draft)?;
+    let copy = scope.try_copy(printer.alloc)?;
+    let ended = put_block(printer, copy, block, deeper(place)?, asked)?;
+    Ok(ended.freed(count))
+}
+
+// The second side, behind which only so many names are taken.
+#[cycle(block)]
+#[tactic(auto, unfolding(crate::specs::Statements::second_side))]
+fn second_side(
+    printer: &Printer<'_>,
+    scope: Scope,
+    block: &Block,
+    place: Place,
+    count: usize,
+    draft: Draft,
+) -> Result<Draft, NoMemory>
+    ensures { IfOk result (λ d. d ≡ behind_second (setting_in printer.now) place count
+        (block_draft (setting_in printer.now) scope (block_tree block.now)) draft) }
+{
+    let other = put_else(printer, place, draft)?;
+    let ended = put_block(printer, scope, block, deeper(place)?, other)?;
+    Ok(ended.freed(count))
 }
 
 // An arm without searches: the last one has guards.
@@ -262,7 +298,7 @@ fn plain_arm(
                     printer,
                     copy,
                     body,
-                    arm_place(printer.language, place)?,
+                    arm_place(language_in(printer), place)?,
                     scoped,
                 )?;
                 let behind = put_end(printer, place, ended.freed(count))?;
