@@ -9,7 +9,8 @@ _comfusy() {
       compile) mapfile -t COMPREPLY < <(compgen -W '- --plain --stats' -- "$word") ;;
       run) mapfile -t COMPREPLY < <(compgen -W '--plain --stats --key --jsonl' -- "$word") ;;
       exec) mapfile -t COMPREPLY < <(compgen -W '--key --jsonl' -- "$word") ;;
-      pre | check | prove) mapfile -t COMPREPLY < <(compgen -W '-' -- "$word") ;;
+      check) mapfile -t COMPREPLY < <(compgen -W '- --strict --unique' -- "$word") ;;
+      pre | prove) mapfile -t COMPREPLY < <(compgen -W '-' -- "$word") ;;
     esac
   elif [ "$command" != gen ]; then
     [ "$command" != exec ] || kind=target

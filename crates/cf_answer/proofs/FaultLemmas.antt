@@ -85,7 +85,7 @@ pub refused_fault : (c : Command) (files : List (List ℕ)) (f : Fault) → Refu
 refused_fault (compile flags name) (text ∷ []) f h = source_text text f h
 refused_fault (run flags form name) (text ∷ []) f h = run_text text f h
 refused_fault (pre name) (text ∷ []) f h = source_text text f h
-refused_fault (check name) (text ∷ []) f h = source_text text f h
+refused_fault (check strictness name) (text ∷ []) f h = source_text text f h
 refused_fault (exec form name) (text ∷ []) f h = target_text text f h
 refused_fault (prove name) (text ∷ []) f h = source_text text f h
 refused_fault (verify name other) (source ∷ steps ∷ []) f h = verify_fault source steps f h

@@ -57,6 +57,8 @@ pub mod StepLemmas
 mod SumExamples
 pub mod SumLemmas
 pub mod TargetLemmas
+mod TellExamples
+pub mod TellLemmas
 mod TextExamples
 pub mod TextLemmas
 mod ToldExamples

@@ -21,7 +21,7 @@ pub refused_alike : (command : Command) (files : List (List ℕ)) (f g : Fault) 
 refused_alike (compile flags name) (text ∷ []) f g h i = sources_alike text f g h i
 refused_alike (run flags form name) (text ∷ []) f g h i = runs_alike text f g h i
 refused_alike (pre name) (text ∷ []) f g h i = sources_alike text f g h i
-refused_alike (check name) (text ∷ []) f g h i = sources_alike text f g h i
+refused_alike (check strictness name) (text ∷ []) f g h i = sources_alike text f g h i
 refused_alike (exec form name) (text ∷ []) f g h i = targets_alike text f g h i
 refused_alike (prove name) (text ∷ []) f g h i = sources_alike text f g h i
 refused_alike (verify name other) (source ∷ steps ∷ []) f g h i = verify_alike source steps f g h i
@@ -34,9 +34,10 @@ pub owed_accepted : (command : Command) (files : List (List ℕ)) (given passes 
     IsAccepted command files
 owed_accepted (compile flags name) (file ∷ []) given passes ls text h =
     λ f r. compiled_unrefused (applied (not flags.plain) given) (applied (not flags.plain) passes) file h.0 f h.1.0 r
-owed_accepted (run flags form name) (file ∷ []) given passes ls text h = λ f r. run_unrefused (not flags.plain) (form_of form h.0) file given passes ls text f h.2 r
+owed_accepted (run flags form name) (file ∷ []) given passes ls text h =
+    λ f r. run_unrefused (not flags.plain) (form_of form h.0) file given passes ls text f h.2 r
 owed_accepted (pre name) (file ∷ []) given passes ls text h = λ f r. pres_unrefused file h.0 text f h.1 h.2 r
-owed_accepted (check name) (file ∷ []) given passes ls text h = λ f r. checks_unrefused file h.0 h.2 text f h.3 h.4 r
+owed_accepted (check strictness name) (file ∷ []) given passes ls text h = λ f r. checks_unrefused file h.1 h.3 text h.0 f h.4 h.5 r
 owed_accepted (exec form name) (file ∷ []) given passes ls text h = λ f r. typed_unrefused file (target_tree h.0) f h.1 r
 owed_accepted (prove name) (file ∷ []) given passes ls text h = λ f r. proofs_unrefused file h.0 text f h.1 h.2 r
 owed_accepted (verify name other) (source ∷ steps ∷ []) given passes ls text h = λ f r. verify_unrefused source steps h.0 f h.1 h.2 r

@@ -58,3 +58,6 @@ no-memory = (refl, refl)
 
 rejected : number_of (fault.Rejected 1 0 0 why.Code) ≡ 13
 rejected = refl
+
+answers : (number_of (fault.AnswersNo 1) ≡ 14) × (number_of (fault.AnswersUndecided 2) ≡ 15)
+answers = (refl, refl)

@@ -13,7 +13,7 @@ help_text = concat (
     codes "  compile FILE [--plain] [--stats]                write the compiled program, the target\n" ∷
     codes "  run FILE [--plain] [--stats] [--key] [--jsonl]  answer the lines of the input by the program\n" ∷
     codes "  pre FILE                                        write for which inputs each choose has outputs\n" ∷
-    codes "  check FILE                                      write whether there always are outputs, and one only\n" ∷
+    codes "  check FILE [--strict [--unique]]                write whether there always are outputs, and one only\n" ∷
     codes "  exec FILE [--key] [--jsonl]                     answer the lines of the input by a target\n" ∷
     codes "  prove FILE                                      write the steps by which each choose was solved\n" ∷
     codes "  verify FILE STEPS                               check such steps\n" ∷

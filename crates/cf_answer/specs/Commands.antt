@@ -9,7 +9,7 @@ abbrev pub names_of : Command → List (List ℕ)
 names_of (compile flags file) = file ∷ []
 names_of (run flags form file) = file ∷ []
 names_of (pre file) = file ∷ []
-names_of (check file) = file ∷ []
+names_of (check strictness file) = file ∷ []
 names_of (exec form file) = file ∷ []
 names_of (prove file) = file ∷ []
 names_of (verify file steps) = file ∷ steps ∷ []

@@ -20,8 +20,10 @@ pub mod ResultNames
 pub mod Sources
 pub mod Statuses
 pub mod Steps
+pub mod Tells
 pub mod Texts
 pub mod ToldChecks
+pub mod Unmet
 pub mod Verifying
 pub mod Workloads
 pub mod Written

@@ -136,7 +136,7 @@ abbrev pub Refuses : Command → List (List ℕ) → Fault → Type 0
 Refuses (compile flags name) (text ∷ []) f = IsRefusedSource text f
 Refuses (run flags form name) (text ∷ []) f = IsRefusedRun text f
 Refuses (pre name) (text ∷ []) f = IsRefusedSource text f
-Refuses (check name) (text ∷ []) f = IsRefusedSource text f
+Refuses (check strictness name) (text ∷ []) f = IsRefusedSource text f
 Refuses (exec form name) (text ∷ []) f = IsRefusedTarget text f
 Refuses (prove name) (text ∷ []) f = IsRefusedSource text f
 Refuses (verify name steps_name) (source ∷ steps ∷ []) f = IsUnverified source steps f

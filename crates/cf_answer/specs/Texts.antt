@@ -1,5 +1,5 @@
 -- What each fault writes.
-use Rattle.std.specs.Prelude.{ℕ, List, [], ◌∷◌, codes, decimal, Result, Ok, Err}
+use Rattle.std.specs.Prelude.{ℕ, ◌==◌, List, [], ◌∷◌, codes, decimal, Result, Ok, Err, if◌then◌else◌}
 use Rattle.std.specs.List.{concat}
 use Rattle.cf_tree.specs.declared.base.Place.{Place}
 use Rattle.cf_linear.specs.declared.refusal.Refusal.{Refusal}
@@ -76,6 +76,13 @@ abbrev pub rejected_line : ℕ → ℕ → ℕ → Why → List ℕ
 rejected_line n i j w =
     concat (codes "choose " ∷ decimal n ∷ codes ": rejected at case " ∷ decimal i ∷ codes " step " ∷ decimal j ∷ codes ": " ∷ why_text w ∷ codes "\n" ∷ [])
 
+-- check: N answers are so
+abbrev pub answers_verb : ℕ → List ℕ
+answers_verb n = if n == 1 then codes " answer is " else codes " answers are "
+
+abbrev pub answers_line : ℕ → List ℕ → List ℕ
+answers_line n so = concat (codes "check: " ∷ decimal n ∷ answers_verb n ∷ so ∷ codes "\n" ∷ [])
+
 -- where the words are no command
 abbrev pub usage_words : List ℕ
 usage_words = codes "usage: comfusy compile|pre|check|run|exec|prove FILE, or comfusy verify FILE STEPS, or comfusy gen N, or comfusy --help"
@@ -98,6 +105,8 @@ fault_line fault.Input = words_line (codes "cannot read input")
 fault_line fault.Output = words_line (codes "cannot write output")
 fault_line fault.InputTooLong = words_line (codes "input too long")
 fault_line fault.OutputTooLong = words_line (codes "text too long")
+fault_line (fault.AnswersNo n) = answers_line n (codes "no")
+fault_line (fault.AnswersUndecided n) = answers_line n (codes "undecided")
 fault_line fault.NoMemory = words_line (codes "no memory")
 
 -- what goes to the sink of errors: the line of a fault, or nothing

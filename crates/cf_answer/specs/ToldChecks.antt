@@ -145,12 +145,6 @@ abbrev pub ComeTo : {A : Type 0} → (ToldBranch → A → Type 0) → (A → A 
 ComeTo Is first before [] all = all ≡ before
 ComeTo {A} Is first before (b ∷ bs) all = (told : A) × Is b told × ComeTo Is first (first before told) bs all
 
-abbrev pub IsToldExistence : Asked → ToldChoose → ExistenceAnswer → Type 0
-IsToldExistence a c e = ComeTo (IsBranchExistence a) first_existence existence.Always c.branches e
-
-abbrev pub IsToldUniqueness : Asked → ToldChoose → UniquenessAnswer → Type 0
-IsToldUniqueness a c u = ComeTo (IsBranchUniqueness a) first_uniqueness uniqueness.Unique c.branches u
-
 -- ---- which choose is told of
 -- what is told of the choose of this number
 abbrev pub told_of : List ToldChoose → ℕ → Option ToldChoose

@@ -29,7 +29,7 @@ abbrev pub source_of : Command → Option (List ℕ)
 source_of (compile flags file) = Some file
 source_of (run flags form file) = Some file
 source_of (pre file) = Some file
-source_of (check file) = Some file
+source_of (check strictness file) = Some file
 source_of (prove file) = Some file
 source_of (verify file steps) = Some file
 source_of command = None

@@ -16,7 +16,7 @@ const HELP: &[u8] = b"usage: comfusy COMMAND ..\n\
 \x20 compile FILE [--plain] [--stats]                write the compiled program, the target\n\
 \x20 run FILE [--plain] [--stats] [--key] [--jsonl]  answer the lines of the input by the program\n\
 \x20 pre FILE                                        write for which inputs each choose has outputs\n\
-\x20 check FILE                                      write whether there always are outputs, and one only\n\
+\x20 check FILE [--strict [--unique]]                write whether there always are outputs, and one only\n\
 \x20 exec FILE [--key] [--jsonl]                     answer the lines of the input by a target\n\
 \x20 prove FILE                                      write the steps by which each choose was solved\n\
 \x20 verify FILE STEPS                               check such steps\n\

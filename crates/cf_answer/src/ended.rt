@@ -102,7 +102,7 @@ impl Ended {
             CommandKind::Compile
             | CommandKind::Run
             | CommandKind::Pre
-            | CommandKind::Check
+            | CommandKind::Check(_)
             | CommandKind::Prove => Ended::on_source(alloc, &source, answer),
         }
     }
@@ -148,7 +148,7 @@ fn linearity_of(kind: CommandKind) -> Linearity
         CommandKind::Run => Linearity::Late,
         CommandKind::Compile
         | CommandKind::Pre
-        | CommandKind::Check
+        | CommandKind::Check(_)
         | CommandKind::Exec
         | CommandKind::Prove => Linearity::Plain,
     }

@@ -61,6 +61,10 @@ pub enum Fault {
     InputTooLong,
     /// What was to be written is longer than its readers take.
     OutputTooLong,
+    /// All was written, and so many answers of a strict `check` are no.
+    AnswersNo(u32),
+    /// All was written, no answer of a strict `check` is no, and so many are undecided.
+    AnswersUndecided(u32),
     NoMemory,
 }
 

@@ -34,6 +34,7 @@ mod tallies;
 mod telling;
 mod text;
 mod told_check;
+mod unmet;
 mod verdict;
 mod verify;
 mod wording;

@@ -60,6 +60,8 @@ pub(crate) fn said(
         | Fault::Output
         | Fault::InputTooLong
         | Fault::OutputTooLong
+        | Fault::AnswersNo(_)
+        | Fault::AnswersUndecided(_)
         | Fault::NoMemory => Ok(None),
     }
 }

@@ -33,6 +33,10 @@ pub enum Status {
     NoMemory,
     /// The steps of an elimination are not accepted.
     Rejected,
+    /// All was written, and some answer of a strict `check` is no.
+    AnswersNo,
+    /// All was written, no answer of a strict `check` is no, and some is undecided.
+    AnswersUndecided,
 }
 
 impl Status {
@@ -54,6 +58,8 @@ impl Status {
             Status::InputLong => 11,
             Status::NoMemory => 12,
             Status::Rejected => 13,
+            Status::AnswersNo => 14,
+            Status::AnswersUndecided => 15,
         }
     }
 }
@@ -108,6 +114,8 @@ fn fault_status(fault: &Fault) -> Status
         Fault::Output => Status::Output,
         Fault::InputTooLong => Status::InputLong,
         Fault::OutputTooLong => Status::Limit,
+        Fault::AnswersNo(_) => Status::AnswersNo,
+        Fault::AnswersUndecided(_) => Status::AnswersUndecided,
         Fault::NoMemory => Status::NoMemory,
     }
 }

@@ -4,6 +4,7 @@ use Rattle.std.specs.Prelude.{Some, None}
 use Rattle.cf_words.specs.Commands.{compile, run, pre, check, exec, prove, verify, gen, help, version}
 use Rattle.cf_words.specs.declared.command.Flags.{Flags}
 use Rattle.cf_words.specs.declared.command.ReplyForm.{ReplyForm}
+use Rattle.cf_words.specs.declared.command.Strictness.TheVariants as strictness
 use Rattle.cf_answer.specs.Owed.{Replier, AreReplies, Owes}
 use Rattle.cf_answer.specs.declared.fault.Fault.TheVariants as fault
 use Rattle.cf_lines.specs.Opening.{answers_lines, RepliesFor, IsUnasked}
@@ -38,7 +39,7 @@ tallies_do_not = refl
 compile_does_not : answers_lines (compile none (codes "f")) ≡ false
 compile_does_not = refl
 
-check_does_not : answers_lines (check (codes "f")) ≡ false
+check_does_not : answers_lines (check strictness.Told (codes "f")) ≡ false
 check_does_not = refl
 
 pre_does_not : answers_lines (pre (codes "f")) ≡ false

@@ -72,7 +72,8 @@ fn answers_lines(kind: CommandKind, flags: Flags) -> bool
     match kind {
         CommandKind::Run => !flags.stats,
         CommandKind::Exec => true,
-        CommandKind::Compile | CommandKind::Pre | CommandKind::Check | CommandKind::Prove => false,
+        CommandKind::Compile | CommandKind::Pre | CommandKind::Check(_) | CommandKind::Prove =>
+            false,
     }
 }
 
@@ -105,7 +106,7 @@ fn longest_of(kind: CommandKind) -> usize
         CommandKind::Compile
         | CommandKind::Run
         | CommandKind::Pre
-        | CommandKind::Check
+        | CommandKind::Check(_)
         | CommandKind::Prove => longest_text(),
     }
 }
@@ -145,7 +146,7 @@ fn read(
     match command.kind {
         CommandKind::Run => run_replier(alloc, command.flags, command.form, front, passes),
         CommandKind::Exec => exec_replier(alloc, command.form, front),
-        CommandKind::Compile | CommandKind::Pre | CommandKind::Check | CommandKind::Prove => {
+        CommandKind::Compile | CommandKind::Pre | CommandKind::Check(_) | CommandKind::Prove => {
             unreachable!()
         }
     }

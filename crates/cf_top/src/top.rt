@@ -178,7 +178,7 @@ fn longest_of(kind: CommandKind) -> usize
         CommandKind::Compile
         | CommandKind::Run
         | CommandKind::Pre
-        | CommandKind::Check
+        | CommandKind::Check(_)
         | CommandKind::Prove => longest_text(),
     }
 }
@@ -206,7 +206,7 @@ fn answer_text<I: Source, O: Sink>(
         CommandKind::Compile => write_target(alloc, flags, text, out, passes),
         CommandKind::Run => run_source(alloc, flags, command.form, text, input, out, passes),
         CommandKind::Pre => write_preconditions(alloc, text, out),
-        CommandKind::Check => write_checks(alloc, text, out),
+        CommandKind::Check(strictness) => write_checks(alloc, strictness, text, out),
         CommandKind::Exec => run_target(alloc, command.form, text, input, out),
         CommandKind::Prove => write_blocks(alloc, text, out),
     }

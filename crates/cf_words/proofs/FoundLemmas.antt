@@ -12,7 +12,7 @@ use Rattle.clap.specs.declared.parser.matches.ArgMatches.{ArgMatches}
 use Rattle.clap.specs.Walk.{first_of}
 use Rattle.cf_words.specs.Commands.{Command, plain_command}
 use Rattle.cf_words.proofs.GrammarLaws.{clap_agrees, is_exact, is_simple_grammar}
-use Rattle.cf_words.specs.Grammar.{MatchesAnswer, clap_command, command_found, flags_found, form_found, found_unless, grammar, is_set, verify_found}
+use Rattle.cf_words.specs.Grammar.{MatchesAnswer, checks_found, clap_command, command_found, flags_found, form_found, found_unless, grammar, is_set, verify_found}
 use Rattle.cf_words.specs.Words.{WordsAnswer, about, command_for, command_in, command_of, command_parsed, may_be_parsed, may_be_read, verify_for}
 use Rattle.cf_words.specs.declared.command.Command as declared
 use Rattle.cf_words.specs.declared.fault.WordsFault.{WordsFault}
@@ -24,11 +24,12 @@ set_is m id o e = ap (λ t. option_map_or (λ x. bytes_eq x (codes "true")) t fa
 
 pub operand_is : (m : ArgMatches) (name : Text) (o : Option (Bor Text)) → option_map (λ s. s.now) o ≡ first_value (found_of m) (codes "operand")
     → bytes_eq name (codes "verify") ≡ false
-    → option_and_then (command_for name (flags_found (rows_of (found_of m))) (form_found (rows_of (found_of m)))) (option_map (λ s. s.now) o)
+    → option_and_then (command_for name (flags_found (rows_of (found_of m))) (form_found (rows_of (found_of m))) (checks_found (rows_of (found_of m))))
+    (option_map (λ s. s.now) o)
     ≡ command_found (Some (name, rows_of (found_of m)))
 operand_is m name o e other =
     let rows = rows_of (found_of m) in
-    ap₂ (λ b text. cond b (verify_found rows) (option_and_then (command_for name (flags_found rows) (form_found rows)) text)) (sym other)
+    ap₂ (λ b text. cond b (verify_found rows) (option_and_then (command_for name (flags_found rows) (form_found rows) (checks_found rows)) text)) (sym other)
     (e ∙ first_value-rows (found_of m) (codes "operand"))
 
 -- the two operands of `verify`, as they are read

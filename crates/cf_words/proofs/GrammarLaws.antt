@@ -11,12 +11,13 @@ use Rattle.clap.specs.Kinds.{Kinds, or_else}
 use Rattle.clap.specs.Simple.{Shape, built, entered, is_simple, names_of}
 use Rattle.clap.specs.Walk.{Row, Text, Walk, first_of, finished, idle, nothing_held, rows_after, settled, subcommand_met, walk_from, walked}
 use Rattle.clap.specs.declared.error.kind.ErrorKind.TheVariants.{InvalidSubcommand, UnknownArgument}
-use Rattle.cf_words.specs.Commands.{Command, compile as the_compile, pre as the_pre, check as the_check, prove as the_prove, gen as the_gen}
-use Rattle.cf_words.specs.Grammar.{clap_command, command_found, flags_found, form_found, found_unless, grammar, verify_found}
-use Rattle.cf_words.specs.Words.{asks_passes, asks_replies, command_for, command_in, command_without_input, exec_for, flags_in, form_in, is_flag, is_operand, may_be_parsed, only, operands, run_for, size_of, stands, stands_twice, verify_for}
+use Rattle.cf_words.specs.Commands.{Command, compile as the_compile, pre as the_pre, prove as the_prove, gen as the_gen}
+use Rattle.cf_words.specs.Grammar.{checks_found, clap_command, command_found, flags_found, form_found, found_unless, grammar, verify_found}
+use Rattle.cf_words.specs.Words.{asks_answers, asks_passes, asks_replies, check_for, checks_in, command_for, command_in, command_without_input, exec_for, flags_in, form_in, is_flag, is_operand, may_be_parsed, only, operands, run_for, size_of, stands, stands_twice, verify_for}
+use Rattle.cf_words.specs.declared.command.CheckFlags.{CheckFlags}
 use Rattle.cf_words.specs.declared.command.Flags.{Flags}
 use Rattle.cf_words.specs.declared.command.ReplyForm.{ReplyForm}
-use Rattle.cf_words.proofs.Uses.{AreOnce, Flag, IsOperand, Use, flag_word, once_of, uses_of, words_of, plain, stats, key, jsonl, flag, operand}
+use Rattle.cf_words.proofs.Uses.{AreOnce, Flag, IsOperand, Use, flag_word, once_of, uses_of, words_of, plain, stats, key, jsonl, strict, unique, flag, operand}
 use Rattle.cf_words.proofs.LevelLaws.{Asked, said, found_in, at, operand_turn, cond_same}
 use Rattle.cf_words.proofs.FlaggedLaws.{flagged, flags_found_are}
 use Rattle.cf_words.proofs.PairedLaws.{paired, paired_found_are}
@@ -61,13 +62,13 @@ abbrev stopped_at : Text → List Text → Walk
 stopped_at name words = record start { stopped = Some (name, words) }
 
 abbrev command_with : Text → Asked → Option Command
-command_with name asked = command_for name asked.0 asked.1 asked.2
+command_with name asked = command_for name asked.0 asked.1 asked.2 asked.3
 
 -- what a first word asks with flags and an operand
-with_asked : (name : Text) (f : Flags) (g : ReplyForm) (o : Option Text)
-    → option_and_then (command_with name) (option_map (λ x. (f, g, x)) o) ≡ option_and_then (command_for name f g) o
-with_asked name f g None = refl
-with_asked name f g (Some o) = refl
+with_asked : (name : Text) (f : Flags) (g : ReplyForm) (k : CheckFlags) (o : Option Text)
+    → option_and_then (command_with name) (option_map (λ x. (f, g, k, x)) o) ≡ option_and_then (command_for name f g k) o
+with_asked name f g k None = refl
+with_asked name f g k (Some o) = refl
 
 -- what is asked by a subcommand with one operand, and by `verify`
 abbrev asked_of_one : Text → List Text → Option Command
@@ -87,9 +88,10 @@ abbrev kinds_in : Shape → List Text → Kinds
 kinds_in s words = level_fault s [] nothing_held words false []
 
 level_asks : (name : Text) (kinds : Kinds) (rows : List Row)
-    → found_unless (or_else kinds []) (option_and_then (command_for name (flags_found rows) (form_found rows)) (first_of (codes "operand") rows))
+    → found_unless (or_else kinds [])
+    (option_and_then (command_for name (flags_found rows) (form_found rows) (checks_found rows)) (first_of (codes "operand") rows))
     ≡ option_and_then (command_with name) (found_unless kinds (said rows))
-level_asks name [] rows = sym (with_asked name (flags_found rows) (form_found rows) (first_of (codes "operand") rows))
+level_asks name [] rows = sym (with_asked name (flags_found rows) (form_found rows) (checks_found rows) (first_of (codes "operand") rows))
 level_asks name (kind ∷ kinds) rows = refl
 
 level_verifies : (kinds : Kinds) (rows : List Row) → found_unless (or_else kinds []) (verify_found rows) ≡ found_unless kinds (verify_found rows)
@@ -101,7 +103,8 @@ rows_behind name words = rows_after (flagged name).rules [] words
 
 asks_one : (name : Text) (words : List Text)
     → found_unless (or_else (kinds_in (flagged name) words) []) (option_and_then (command_for name (flags_found (rows_behind name words))
-    (form_found (rows_behind name words))) (first_of (codes "operand") (rows_behind name words))) ≡ asked_of_one name words
+    (form_found (rows_behind name words)) (checks_found (rows_behind name words))) (first_of (codes "operand") (rows_behind name words)))
+    ≡ asked_of_one name words
 asks_one name words = level_asks name (kinds_in (flagged name) words) (rows_behind name words)
 
 -- the words behind a subcommand are left to it
@@ -137,10 +140,11 @@ entered_is gen words = asks_one (codes "gen") words
 
 module _ (us : List Use) (once : AreOnce (words_of us)) where
   asked_is_one : (name : Text)
-      → asked_of_one name (words_of us) ≡ option_and_then (command_for name (flags_in (words_of us)) (form_in (words_of us))) (only (operands (words_of us)))
+      → asked_of_one name (words_of us)
+      ≡ option_and_then (command_for name (flags_in (words_of us)) (form_in (words_of us)) (checks_in (words_of us))) (only (operands (words_of us)))
   asked_is_one name =
       ap (option_and_then (command_with name)) (flags_found_are name us once)
-      ∙ with_asked name (flags_in (words_of us)) (form_in (words_of us)) (only (operands (words_of us)))
+      ∙ with_asked name (flags_in (words_of us)) (form_in (words_of us)) (checks_in (words_of us)) (only (operands (words_of us)))
 
   asked_is : (v : Verb) → asked_of v (words_of us) ≡ command_in (verb_word v ∷ words_of us)
   asked_is compile = asked_is_one (codes "compile")
@@ -222,22 +226,23 @@ none_then g (Some o) h = h o
 other_without_input : (f : Flags) (word : Text) → IsOther word → (x : Text) → command_without_input word f x ≡ None
 other_without_input f word h x =
     (λ i. cond (h.compile.1 i) (Some (the_compile f x)) (cond (asks_passes f) None
-    (cond (h.pre.1 i) (Some (the_pre x)) (cond (h.check.1 i) (Some (the_check x))
-    (cond (h.prove.1 i) (Some (the_prove x)) (cond (h.gen.1 i) (option_map the_gen (size_of x)) None))))))
+    (cond (h.pre.1 i) (Some (the_pre x)) (cond (h.prove.1 i) (Some (the_prove x)) (cond (h.gen.1 i) (option_map the_gen (size_of x)) None)))))
     ∙ cond_same (asks_passes f) None
 
-other_asks_none : (f : Flags) (g : ReplyForm) (word : Text) → IsOther word → (x : Text) → command_for word f g x ≡ None
-other_asks_none f g word h x =
-    (λ i. cond (h.run.1 i) (run_for f g x) (cond (h.exec.1 i) (exec_for f g x) (cond (asks_replies g) None (other_without_input f word h x i))))
-    ∙ cond_same (asks_replies g) None
+other_asks_none : (f : Flags) (g : ReplyForm) (k : CheckFlags) (word : Text) → IsOther word → (x : Text) → command_for word f g k x ≡ None
+other_asks_none f g k word h x =
+    (λ i. cond (h.check.1 i) (check_for f g k x) (cond (asks_answers k) None
+    (cond (h.run.1 i) (run_for f g x) (cond (h.exec.1 i) (exec_for f g x) (cond (asks_replies g) None (other_without_input f word h x i))))))
+    ∙ ap (cond (asks_answers k) None) (cond_same (asks_replies g) None) ∙ cond_same (asks_answers k) None
 
 -- behind such a word nothing is asked
 other_in : (w : Text) (words : List Text) → IsOther w → command_in (w ∷ words) ≡ None
 other_in w words h =
     let f = flags_in words in
     let g = form_in words in
-    ap (λ b. cond b (verify_for words) (option_and_then (command_for w f g) (only (operands words)))) h.verify.1
-    ∙ none_then (command_for w f g) (only (operands words)) (other_asks_none f g w h)
+    let k = checks_in words in
+    ap (λ b. cond b (verify_for words) (option_and_then (command_for w f g k) (only (operands words)))) h.verify.1
+    ∙ none_then (command_for w f g k) (only (operands words)) (other_asks_none f g k w h)
 
 abbrev hit : Text → Option (Text × List Text)
 hit name = Some (name, [])
@@ -289,6 +294,8 @@ flag_before plain words = refl
 flag_before stats words = refl
 flag_before key words = refl
 flag_before jsonl words = refl
+flag_before strict words = refl
+flag_before unique words = refl
 
 uses_go : (us : List Use) → AreOnce (words_of us) → clap_command (words_of us) ≡ command_in (words_of us)
 unfolding clap_on_literals

@@ -4,6 +4,7 @@ use Rattle.std.specs.Fmt.{digits}
 use Rattle.cf_words.specs.Commands.{compile, run, pre, check, exec, prove, verify, gen, help, version}
 use Rattle.cf_words.specs.Words.{command_of, is_flag, is_name, is_operand, may_be_read, most_size}
 use Rattle.cf_words.specs.declared.command.ReplyForm.{ReplyForm}
+use Rattle.cf_words.specs.declared.command.Strictness.TheVariants as strictness
 
 -- nothing is asked of the replies
 abbrev plain_form : ReplyForm
@@ -76,7 +77,7 @@ two_operands = refl
 pre_file : command_of (codes "pre" ∷ codes "a" ∷ []) ≡ Some (pre (codes "a"))
 pre_file = refl
 
-check_file : command_of (codes "check" ∷ codes "a" ∷ []) ≡ Some (check (codes "a"))
+check_file : command_of (codes "check" ∷ codes "a" ∷ []) ≡ Some (check strictness.Told (codes "a"))
 check_file = refl
 
 prove_file : command_of (codes "prove" ∷ codes "a" ∷ []) ≡ Some (prove (codes "a"))
@@ -228,6 +229,56 @@ key_of_verify = refl
 jsonl_for_steps : command_of (codes "verify" ∷ codes "a" ∷ codes "--jsonl" ∷ []) ≡ None
 jsonl_for_steps = refl
 
+-- ---- the flags of `check`
+strict_check : command_of (codes "check" ∷ codes "--strict" ∷ codes "a" ∷ []) ≡ Some (check strictness.Existing (codes "a"))
+strict_check = refl
+
+strict_behind_the_file : command_of (codes "check" ∷ codes "a" ∷ codes "--strict" ∷ []) ≡ Some (check strictness.Existing (codes "a"))
+strict_behind_the_file = refl
+
+strict_and_unique : command_of (codes "check" ∷ codes "--strict" ∷ codes "--unique" ∷ codes "a" ∷ []) ≡ Some (check strictness.Unique (codes "a"))
+strict_and_unique = refl
+
+unique_before_strict : command_of (codes "check" ∷ codes "--unique" ∷ codes "-" ∷ codes "--strict" ∷ []) ≡ Some (check strictness.Unique (codes "-"))
+unique_before_strict = refl
+
+unique_alone : (command_of (codes "check" ∷ codes "--unique" ∷ codes "a" ∷ []) ≡ None) × (command_of (codes "check" ∷ codes "a" ∷ codes "--unique" ∷ []) ≡ None)
+unique_alone = (refl, refl)
+
+strict_twice : (command_of (codes "check" ∷ codes "--strict" ∷ codes "a" ∷ codes "--strict" ∷ []) ≡ None)
+    × (may_be_read (codes "check" ∷ codes "--strict" ∷ codes "a" ∷ codes "--strict" ∷ []) ≡ false)
+strict_twice = (refl, refl)
+
+unique_twice : (command_of (codes "check" ∷ codes "--strict" ∷ codes "--unique" ∷ codes "--unique" ∷ codes "a" ∷ []) ≡ None)
+    × (may_be_read (codes "check" ∷ codes "--strict" ∷ codes "--unique" ∷ codes "--unique" ∷ codes "a" ∷ []) ≡ false)
+unique_twice = (refl, refl)
+
+strict_and_plain : command_of (codes "check" ∷ codes "--strict" ∷ codes "--plain" ∷ codes "a" ∷ []) ≡ None
+strict_and_plain = refl
+
+strict_and_jsonl : command_of (codes "check" ∷ codes "--strict" ∷ codes "a" ∷ codes "--jsonl" ∷ []) ≡ None
+strict_and_jsonl = refl
+
+strict_with_value : command_of (codes "check" ∷ codes "--strict=a" ∷ codes "a" ∷ []) ≡ None
+strict_with_value = refl
+
+strict_alone : command_of (codes "check" ∷ codes "--strict" ∷ []) ≡ None
+strict_alone = refl
+
+strict_refused : IsRefusedWith (codes "compile") (codes "--strict") × IsRefusedWith (codes "run") (codes "--strict")
+    × IsRefusedWith (codes "pre") (codes "--strict") × IsRefusedWith (codes "exec") (codes "--strict") × IsRefusedWith (codes "prove") (codes "--strict")
+    × IsRefusedWith (codes "gen") (codes "--strict")
+strict_refused = ((refl, refl), (refl, refl), (refl, refl), (refl, refl), (refl, refl), (refl, refl))
+
+unique_refused : IsRefusedWith (codes "compile") (codes "--unique") × IsRefusedWith (codes "run") (codes "--unique")
+    × IsRefusedWith (codes "pre") (codes "--unique") × IsRefusedWith (codes "exec") (codes "--unique") × IsRefusedWith (codes "prove") (codes "--unique")
+    × IsRefusedWith (codes "gen") (codes "--unique")
+unique_refused = ((refl, refl), (refl, refl), (refl, refl), (refl, refl), (refl, refl), (refl, refl))
+
+strict_of_verify : (command_of (codes "verify" ∷ codes "a" ∷ codes "b" ∷ codes "--strict" ∷ []) ≡ None)
+    × (command_of (codes "verify" ∷ codes "--strict" ∷ codes "a" ∷ []) ≡ None)
+strict_of_verify = (refl, refl)
+
 -- ---- standard input as the file
 dash_to_compile : command_of (codes "compile" ∷ codes "-" ∷ []) ≡ Some (compile (record { plain = false; stats = false }) (codes "-"))
 dash_to_compile = refl
@@ -239,7 +290,7 @@ dash_among_flags = refl
 dash_to_pre : command_of (codes "pre" ∷ codes "-" ∷ []) ≡ Some (pre (codes "-"))
 dash_to_pre = refl
 
-dash_to_check : command_of (codes "check" ∷ codes "-" ∷ []) ≡ Some (check (codes "-"))
+dash_to_check : command_of (codes "check" ∷ codes "-" ∷ []) ≡ Some (check strictness.Told (codes "-"))
 dash_to_check = refl
 
 dash_to_prove : command_of (codes "prove" ∷ codes "-" ∷ []) ≡ Some (prove (codes "-"))

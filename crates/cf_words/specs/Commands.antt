@@ -7,12 +7,13 @@ use Rattle.cf_words.specs.declared.command.CommandKind.TheVariants.{Compile, Run
 use Rattle.cf_words.specs.declared.command.FileCommand.{FileCommand}
 use Rattle.cf_words.specs.declared.command.Flags.{Flags}
 use Rattle.cf_words.specs.declared.command.ReplyForm.{ReplyForm}
+use Rattle.cf_words.specs.declared.command.Strictness.{Strictness}
 
 pub data Command : Type 0 where
   compile : Flags → List ℕ → Command
   run : Flags → ReplyForm → List ℕ → Command
   pre : List ℕ → Command
-  check : List ℕ → Command
+  check : Strictness → List ℕ → Command
   exec : ReplyForm → List ℕ → Command
   prove : List ℕ → Command
   verify : List ℕ → List ℕ → Command
@@ -25,7 +26,7 @@ abbrev pub command_on : CommandKind → Flags → ReplyForm → List ℕ → Com
 command_on Compile flags form file = compile flags file
 command_on Run flags form file = run flags form file
 command_on Pre flags form file = pre file
-command_on Check flags form file = check file
+command_on (Check strictness) flags form file = check strictness file
 command_on Exec flags form file = exec form file
 command_on Prove flags form file = prove file
 

@@ -6,6 +6,7 @@ use Rattle.clap.specs.declared.builder.action.ArgAction.TheVariants.{SetTrue}
 use Rattle.cf_words.specs.Commands.{Command}
 use Rattle.cf_words.specs.Words.{command_for, verify_for}
 use Rattle.clap.specs.declared.parser.matches.ArgMatches.{ArgMatches}
+use Rattle.cf_words.specs.declared.command.CheckFlags.{CheckFlags}
 use Rattle.cf_words.specs.declared.command.Flags.{Flags}
 use Rattle.cf_words.specs.declared.command.ReplyForm.{ReplyForm}
 use Rattle.cf_words.specs.declared.fault.WordsFault.{WordsFault}
@@ -17,11 +18,12 @@ flag id = record (new_rule id) { long = Some id; action = Some SetTrue }
 abbrev pub operand : Text → Rule
 operand id = record (new_rule id) { required = true }
 
--- a subcommand with the four flags and an operand, and one with two operands; which command takes which flag is told by `command_for`
+-- a subcommand with the six flags and an operand, and one with two operands; which command takes which flag is told by `command_for`
 abbrev pub flagged_subcommand : Text → App
 flagged_subcommand name =
-    with_rule (with_rule (with_rule (with_rule (with_rule (new_app name)
-    (flag (codes "plain"))) (flag (codes "stats"))) (flag (codes "key"))) (flag (codes "jsonl"))) (operand (codes "operand"))
+    with_rule (with_rule (with_rule (with_rule (with_rule (with_rule (with_rule (new_app name)
+    (flag (codes "plain"))) (flag (codes "stats"))) (flag (codes "key"))) (flag (codes "jsonl"))) (flag (codes "strict"))) (flag (codes "unique")))
+    (operand (codes "operand"))
 
 abbrev pub paired_subcommand : Text → App
 paired_subcommand name = with_rule (with_rule (new_app name) (operand (codes "file"))) (operand (codes "steps"))
@@ -50,6 +52,9 @@ flags_found rows = record { plain = is_set (codes "plain") rows; stats = is_set 
 abbrev pub form_found : List Row → ReplyForm
 form_found rows = record { key = is_set (codes "key") rows; jsonl = is_set (codes "jsonl") rows }
 
+abbrev pub checks_found : List Row → CheckFlags
+checks_found rows = record { strict = is_set (codes "strict") rows; unique = is_set (codes "unique") rows }
+
 -- the command `verify` on the two operands that were found
 abbrev pub verify_found : List Row → Option Command
 verify_found rows =
@@ -60,7 +65,7 @@ abbrev pub command_found : Option (Text × List Row) → Option Command
 command_found None = None
 command_found (Some found) =
     if bytes_eq found.0 (codes "verify") then verify_found found.1
-    else option_and_then (command_for found.0 (flags_found found.1) (form_found found.1)) (first_of (codes "operand") found.1)
+    else option_and_then (command_for found.0 (flags_found found.1) (form_found found.1) (checks_found found.1)) (first_of (codes "operand") found.1)
 
 -- the answer, where no kind of error comes
 abbrev pub found_unless : {X : Type 0} → Kinds → Option X → Option X

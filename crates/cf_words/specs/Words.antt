@@ -3,14 +3,19 @@ use Rattle.std.specs.Prelude.{◌≡◌, ⊤, ℕ, List, [], ◌∷◌, Bool, fa
 use Rattle.std.specs.List.{list_all, list_any, range_with_len}
 use Rattle.cf_words.specs.Commands.{Command, compile, run, pre, check, exec, prove, verify, gen, help, version, plain_command}
 use Rattle.cf_words.specs.declared.command.Command as declared
+use Rattle.cf_words.specs.declared.command.CheckFlags.{CheckFlags}
 use Rattle.cf_words.specs.declared.command.Flags.{Flags}
 use Rattle.cf_words.specs.declared.command.ReplyForm.{ReplyForm}
+use Rattle.cf_words.specs.declared.command.Strictness.{Strictness}
+use Rattle.cf_words.specs.declared.command.Strictness.TheVariants as strictness
 use Rattle.cf_words.specs.declared.fault.WordsFault.{WordsFault}
 use Rattle.cf_words.specs.declared.fault.WordsFault.TheVariants.{Usage, NoMemory}
 
--- one of the four flags
+-- one of the six flags
 abbrev pub is_flag : List ℕ → Bool
-is_flag word = bytes_eq word (codes "--plain") || bytes_eq word (codes "--stats") || bytes_eq word (codes "--key") || bytes_eq word (codes "--jsonl")
+is_flag word =
+    bytes_eq word (codes "--plain") || bytes_eq word (codes "--stats") || bytes_eq word (codes "--key") || bytes_eq word (codes "--jsonl")
+    || bytes_eq word (codes "--strict") || bytes_eq word (codes "--unique")
 
 -- a word that is not empty and does not begin with a dash
 abbrev pub is_name : List ℕ → Bool
@@ -33,9 +38,9 @@ stands_twice word (first ∷ words) = if bytes_eq first word then stands word wo
 abbrev pub are_once : List (List ℕ) → Bool
 are_once words =
     not (stands_twice (codes "--plain") words || stands_twice (codes "--stats") words || stands_twice (codes "--key") words
-    || stands_twice (codes "--jsonl") words)
+    || stands_twice (codes "--jsonl") words || stands_twice (codes "--strict") words || stands_twice (codes "--unique") words)
 
--- each word is an operand or one of the four flags, and no flag stands twice
+-- each word is an operand or one of the six flags, and no flag stands twice
 abbrev pub may_be_parsed : List (List ℕ) → Bool
 may_be_parsed words = list_all (λ w. is_flag w || is_operand w) words && are_once words
 
@@ -59,12 +64,23 @@ most_size = 100
 abbrev pub size_of : List ℕ → Option ℕ
 size_of word = find (λ n. bytes_eq word (decimal n)) (range_with_len 1 most_size)
 
--- something is asked of the passes, and of the replies
+-- something is asked of the passes, of the replies, and of the answers of `check`
 abbrev pub asks_passes : Flags → Bool
 asks_passes flags = flags.plain || flags.stats
 
 abbrev pub asks_replies : ReplyForm → Bool
 asks_replies form = form.key || form.jsonl
+
+abbrev pub asks_answers : CheckFlags → Bool
+asks_answers checks = checks.strict || checks.unique
+
+-- how strict `check` is with these flags; `--unique` stands beside `--strict`
+abbrev pub strictness_of : CheckFlags → Option Strictness
+strictness_of checks =
+    if checks.strict && checks.unique then Some strictness.Unique
+    else if checks.strict then Some strictness.Existing
+    else if checks.unique then None
+    else Some strictness.Told
 
 -- the command of a first word that reads no input, with these flags and this operand
 abbrev pub command_without_input : List ℕ → Flags → List ℕ → Option Command
@@ -72,7 +88,6 @@ command_without_input first flags operand =
     if bytes_eq first (codes "compile") then Some (compile flags operand)
     else if asks_passes flags then None
     else if bytes_eq first (codes "pre") then Some (pre operand)
-    else if bytes_eq first (codes "check") then Some (check operand)
     else if bytes_eq first (codes "prove") then Some (prove operand)
     else if bytes_eq first (codes "gen") then option_map gen (size_of operand)
     else None
@@ -84,10 +99,19 @@ run_for flags form file = if is_name file then Some (run flags form file) else N
 abbrev pub exec_for : Flags → ReplyForm → List ℕ → Option Command
 exec_for flags form file = if is_name file && not (asks_passes flags) then Some (exec form file) else None
 
--- the command of a first word, with these flags and this operand: only `run` and `exec` reply
-abbrev pub command_for : List ℕ → Flags → ReplyForm → List ℕ → Option Command
-command_for first flags form operand =
-    if bytes_eq first (codes "run") then run_for flags form operand
+-- `check` calls no pass and replies to nothing
+abbrev pub check_for : Flags → ReplyForm → CheckFlags → List ℕ → Option Command
+check_for flags form checks file =
+    if asks_passes flags then None
+    else if asks_replies form then None
+    else option_map (λ s. check s file) (strictness_of checks)
+
+-- the command of a first word, with these flags and this operand: only `check` is strict, and only `run` and `exec` reply
+abbrev pub command_for : List ℕ → Flags → ReplyForm → CheckFlags → List ℕ → Option Command
+command_for first flags form checks operand =
+    if bytes_eq first (codes "check") then check_for flags form checks operand
+    else if asks_answers checks then None
+    else if bytes_eq first (codes "run") then run_for flags form operand
     else if bytes_eq first (codes "exec") then exec_for flags form operand
     else if asks_replies form then None
     else command_without_input first flags operand
@@ -98,6 +122,9 @@ flags_in words = record { plain = stands (codes "--plain") words; stats = stands
 
 abbrev pub form_in : List (List ℕ) → ReplyForm
 form_in words = record { key = stands (codes "--key") words; jsonl = stands (codes "--jsonl") words }
+
+abbrev pub checks_in : List (List ℕ) → CheckFlags
+checks_in words = record { strict = stands (codes "--strict") words; unique = stands (codes "--unique") words }
 
 -- the words that are no flags
 abbrev pub operands : List (List ℕ) → List (List ℕ)
@@ -118,7 +145,7 @@ abbrev pub command_in : List (List ℕ) → Option Command
 command_in [] = None
 command_in (first ∷ words) =
     if bytes_eq first (codes "verify") then verify_for words
-    else option_and_then (command_for first (flags_in words) (form_in words)) (only (operands words))
+    else option_and_then (command_for first (flags_in words) (form_in words) (checks_in words)) (only (operands words))
 
 -- the command that words are which say nothing about the program
 abbrev pub command_parsed : List (List ℕ) → Option Command

@@ -10,13 +10,33 @@ pub enum CommandKind {
     /// The file holds a source text. The preconditions of its chooses are written.
     Pre,
     /// The file holds a source text. For each of its chooses is written whether outputs always exist,
-    /// and whether they are the only ones.
-    Check,
+    /// and whether they are the only ones. The status tells of the answers what is asked of them.
+    Check(Strictness),
     /// The file holds a target text. The input is answered by it.
     Exec,
     /// The file holds a source text. The steps of the elimination of each choose, and the choose's own
     /// target, are written.
     Prove,
+}
+
+/// What `check` asks of its answers, for its status.
+#[derive(Clone, Copy, Debug, PartialEq, Eq)]
+pub enum Strictness {
+    /// Nothing. It is done when they are written.
+    Told,
+    /// Outputs always exist, and the arms of each match cover all numbers.
+    Existing,
+    /// The same, and outputs are the only ones.
+    Unique,
+}
+
+/// The flags of `check`.
+#[derive(Clone, Copy, Debug, PartialEq, Eq)]
+pub(crate) struct CheckFlags {
+    /// The status tells whether outputs always exist.
+    pub(crate) strict: bool,
+    /// It tells also whether they are the only ones.
+    pub(crate) unique: bool,
 }
 
 /// What is asked of the passes.

@@ -48,7 +48,7 @@ fn program<'a>(alloc: Global) -> Command<'a>
         .subcommand_required(true)
 }
 
-// The program with one more subcommand, which takes the four flags and an operand.
+// The program with one more subcommand, which takes the six flags and an operand.
 fn with_flags<'a>(
     alloc: Global,
     program: Command<'a>,
@@ -82,7 +82,9 @@ fn flagged<'a>(alloc: Global, name: &'a str) -> Result<Command<'a>, AllocError>
     let plain = with_flag(alloc, Command::new(alloc, name), "plain")?;
     let passes = with_flag(alloc, plain, "stats")?;
     let key = with_flag(alloc, passes, "key")?;
-    let all = with_flag(alloc, key, "jsonl")?;
+    let replies = with_flag(alloc, key, "jsonl")?;
+    let strict = with_flag(alloc, replies, "strict")?;
+    let all = with_flag(alloc, strict, "unique")?;
     with_operand(alloc, all, "operand")
 }
 

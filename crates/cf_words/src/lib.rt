@@ -11,6 +11,6 @@ mod size;
 mod tests;
 mod word;
 
-pub use crate::command::{Command, CommandKind, FileCommand, Flags, ReplyForm};
+pub use crate::command::{Command, CommandKind, FileCommand, Flags, ReplyForm, Strictness};
 pub use crate::fault::WordsFault;
 pub use crate::parsing::parse;

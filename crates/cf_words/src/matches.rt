@@ -2,10 +2,10 @@
 ghost use Rattle.std.specs.Prelude.{◌≡◌, ◌∷◌, [], false, map, string_bytes, Some, IfSome, option_map};
 ghost use Rattle.clap.specs.Words.{found_of, rows_of, subcommand_rows_of};
 ghost use Rattle.cf_words.specs.Commands.{HasSize, plain_command};
-ghost use Rattle.cf_words.specs.Grammar.{MatchesAnswer, clap_command, command_found as the_command_found, flags_found as the_flags_found, form_found as the_form_found, is_set as the_is_set, verify_found as the_verify_found};
-ghost use Rattle.cf_words.specs.Words.{command_for as the_command_for, command_without_input as the_command_without_input, exec_for as the_exec_for, run_for as the_run_for, verify_for as the_verify_for};
+ghost use Rattle.cf_words.specs.Grammar.{MatchesAnswer, checks_found as the_checks_found, clap_command, command_found as the_command_found, flags_found as the_flags_found, form_found as the_form_found, is_set as the_is_set, verify_found as the_verify_found};
+ghost use Rattle.cf_words.specs.Words.{check_for as the_check_for, command_for as the_command_for, command_without_input as the_command_without_input, exec_for as the_exec_for, run_for as the_run_for, strictness_of as the_strictness_of, verify_for as the_verify_for};
 
-use crate::command::{Command, CommandKind, FileCommand, Flags, ReplyForm};
+use crate::command::{CheckFlags, Command, CommandKind, FileCommand, Flags, ReplyForm, Strictness};
 use crate::fault::{WordsFault, fault_of};
 use crate::grammar::grammar;
 use crate::size::size_of;
@@ -49,7 +49,13 @@ fn command_behind<'a>(name: &str, found: &ArgMatches<'a>) -> Option<Command<'a>>
         return verify_found(found);
     }
     let operand = found.get_str("operand")?;
-    command_for(name, flags_found(found), form_found(found), operand)
+    command_for(
+        name,
+        flags_found(found),
+        form_found(found),
+        checks_found(found),
+        operand,
+    )
 }
 
 // The command `verify` on the two operands that were found.
@@ -92,6 +98,15 @@ fn form_found(found: &ArgMatches<'_>) -> ReplyForm
     }
 }
 
+fn checks_found(found: &ArgMatches<'_>) -> CheckFlags
+    ensures { result ≡ the_checks_found (rows_of (found_of found.now)) }
+{
+    CheckFlags {
+        strict: is_set(found, "strict"),
+        unique: is_set(found, "unique"),
+    }
+}
+
 fn is_set(found: &ArgMatches<'_>, flag: &str) -> bool
     ensures { result ≡ the_is_set flag.now (rows_of (found_of found.now)) }
 {
@@ -106,12 +121,17 @@ fn command_for<'a>(
     first: &str,
     flags: Flags,
     form: ReplyForm,
+    checks: CheckFlags,
     operand: &'a str,
 ) -> Option<Command<'a>>
-    ensures command { option_map plain_command result ≡ the_command_for first.now flags form operand.now }
+    ensures command { option_map plain_command result ≡ the_command_for first.now flags form checks operand.now }
     ensures size { IfSome result HasSize }
 {
-    if first == "run" {
+    if first == "check" {
+        check_for(flags, form, checks, operand)
+    } else if checks.strict || checks.unique {
+        None
+    } else if first == "run" {
         run_for(flags, form, operand)
     } else if first == "exec" {
         exec_for(flags, form, operand)
@@ -119,6 +139,44 @@ fn command_for<'a>(
         None
     } else {
         command_without_input(first, flags, operand)
+    }
+}
+
+// The command `check`, where nothing is asked of the passes or of replies, and its flags say how strict
+// it is.
+fn check_for<'a>(
+    flags: Flags,
+    form: ReplyForm,
+    checks: CheckFlags,
+    operand: &'a str,
+) -> Option<Command<'a>>
+    ensures command { option_map plain_command result ≡ the_check_for flags form checks operand.now }
+    ensures size { IfSome result HasSize }
+{
+    if flags.plain || flags.stats {
+        return None;
+    }
+    if form.key || form.jsonl {
+        return None;
+    }
+    match strictness_of(checks) {
+        Some(strictness) => Some(silent(CommandKind::Check(strictness), flags, operand)),
+        None => None,
+    }
+}
+
+// How strict `check` is with these flags; `--unique` stands beside `--strict`.
+fn strictness_of(checks: CheckFlags) -> Option<Strictness>
+    ensures { result ≡ the_strictness_of checks }
+{
+    if checks.strict && checks.unique {
+        Some(Strictness::Unique)
+    } else if checks.strict {
+        Some(Strictness::Existing)
+    } else if checks.unique {
+        None
+    } else {
+        Some(Strictness::Told)
     }
 }
 
@@ -157,8 +215,6 @@ fn command_without_input<'a>(first: &str, flags: Flags, operand: &'a str) -> Opt
         None
     } else if first == "pre" {
         Some(silent(CommandKind::Pre, flags, operand))
-    } else if first == "check" {
-        Some(silent(CommandKind::Check, flags, operand))
     } else if first == "prove" {
         Some(silent(CommandKind::Prove, flags, operand))
     } else if first == "gen" {

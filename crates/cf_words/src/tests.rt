@@ -5,7 +5,7 @@ ghost use Rattle.cf_words.specs.Words.{are_once as are_once_in, is_flag, is_oper
 
 use crate::word::may_stand;
 
-/// Each word is an operand or one of the four flags, and no flag stands twice.
+/// Each word is an operand or one of the six flags, and no flag stands twice.
 pub(crate) fn may_be_parsed(words: &[String]) -> bool
     ensures { result ≡ may_be_parsed_as (map string_bytes words.now) }
 {
@@ -19,7 +19,9 @@ fn are_once(words: &[String]) -> bool
     !(stands_twice(words, "--plain")
         || stands_twice(words, "--stats")
         || stands_twice(words, "--key")
-        || stands_twice(words, "--jsonl"))
+        || stands_twice(words, "--jsonl")
+        || stands_twice(words, "--strict")
+        || stands_twice(words, "--unique"))
 }
 
 fn each_may_stand(words: &[String]) -> bool

@@ -2,11 +2,16 @@
 ghost use Rattle.std.specs.Prelude.{◌≡◌, ◌||◌};
 ghost use Rattle.cf_words.specs.Words.{is_flag as is_flag_word, is_name as is_name_word, is_operand as is_operand_word};
 
-// One of the four flags.
+// One of the six flags.
 fn is_flag(word: &str) -> bool
     ensures { result ≡ is_flag_word word.now }
 {
-    word == "--plain" || word == "--stats" || word == "--key" || word == "--jsonl"
+    word == "--plain"
+        || word == "--stats"
+        || word == "--key"
+        || word == "--jsonl"
+        || word == "--strict"
+        || word == "--unique"
 }
 
 /// A word that is not empty and does not begin with a dash.

@@ -1,4 +1,4 @@
-use Rattle.std.proofs.Common.{rules, ◌≡◌, ◌∙◌, sym, ap, ap₂, Some, None, option_map}
+use Rattle.std.proofs.Common.{rules, ◌≡◌, ◌∙◌, sym, ap, Some, None, option_map}
 use Rattle.cf_words.proofs.FoundLemmas.{operand_is}
 use Rattle.cf_words.specs.Commands.{plain_command}
 use Rattle.cf_words.specs.Words.{command_for}
@@ -13,5 +13,6 @@ returns-in_err-operand-clause-command c =
 pub returns-clause-command : goal.returns-clause-command
 returns-clause-command c =
     let some : c.get_str.result ≡ Some c.in_ok-operand.operand = search rules in
-    c.command_for.ensures.command ∙ ap₂ (λ f g. command_for c.args.name.now f g c.in_ok-operand.operand.now) c.flags_found.ensures c.form_found.ensures
+    c.command_for.ensures.command
+    ∙ (λ i. command_for c.args.name.now (c.flags_found.ensures i) (c.form_found.ensures i) (c.checks_found.ensures i) c.in_ok-operand.operand.now)
     ∙ operand_is c.args.found.now c.args.name.now (Some c.in_ok-operand.operand) (rw some at c.get_str.ensures) (sym c.eq.ensures ∙ c.if-eq.false)
