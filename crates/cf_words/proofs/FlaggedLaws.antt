@@ -107,29 +107,29 @@ flag_rule f = with_index 1 (filled (the_flag (flag_id f)))
 abbrev operand_rule : Rule
 operand_rule = with_index 1 (filled (the_operand (codes "operand")))
 
-abbrev default_row : Text → Row
+abbrev pub default_row : Text → Row
 default_row id = row_of_values id AsWritten DefaultValue (codes "false" ∷ [])
 
 -- the rows with the default of a flag, where it was not used
-abbrev with_flag_default : Text → Bool → List Row → List Row
+abbrev pub with_flag_default : Text → Bool → List Row → List Row
 with_flag_default id used rows = cond used rows (rows ++ default_row id ∷ [])
 
-abbrev flag_found : Text → Bool → Option Row
+abbrev pub flag_found : Text → Bool → Option Row
 flag_found id used = cond used (Some (flag_row id)) None
 
-flag_default : (id : Text) (used : Bool) (rows : List Row) → row_at id rows ≡ flag_found id used
+pub flag_default : (id : Text) (used : Bool) (rows : List Row) → row_at id rows ≡ flag_found id used
     → cond (has_row id rows) rows (with_values id AsWritten DefaultValue (codes "false" ∷ []) rows) ≡ with_flag_default id used rows
 flag_default id true rows h =
     ap (λ b. cond b rows (with_values id AsWritten DefaultValue (codes "false" ∷ []) rows)) (has_row_is id rows ∙ ap (λ r. is_some r) h)
 flag_default id false rows h = ap₂ (λ b rs. cond b rows rs) (has_row_is id rows ∙ ap (λ r. is_some r) h)
     (defaulted id AsWritten DefaultValue (codes "false" ∷ []) rows h)
 
-own_default : (id : Text) (used : Bool) (rows : List Row) → bytes_eq id id ≡ true → row_at id rows ≡ flag_found id used
+pub own_default : (id : Text) (used : Bool) (rows : List Row) → bytes_eq id id ≡ true → row_at id rows ≡ flag_found id used
     → row_at id (with_flag_default id used rows) ≡ Some (cond used (flag_row id) (default_row id))
 own_default id true rows same h = h
 own_default id false rows same h = found id (default_row id) rows same h
 
-other_default : (id other : Text) (used : Bool) (rows : List Row) → bytes_eq id other ≡ false
+pub other_default : (id other : Text) (used : Bool) (rows : List Row) → bytes_eq id other ≡ false
     → row_at other (with_flag_default id used rows) ≡ row_at other rows
 other_default id other true rows apart = refl
 other_default id other false rows apart = kept other (default_row id) rows apart

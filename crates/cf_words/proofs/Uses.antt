@@ -58,7 +58,7 @@ pub flag_not : (word : Text) → ((f : Flag) → bytes_eq word (flag_word f) ≡
 flag_not word none = λ i. (none plain i || none stats i || none key i || none jsonl i || none strict i || none unique i)
 
 -- a word is one of the flags or none
-by_flag : (word : Text) → bytes_eq word (codes "--plain") ≡ false → bytes_eq word (codes "--stats") ≡ false → bytes_eq word (codes "--key") ≡ false
+pub by_flag : (word : Text) → bytes_eq word (codes "--plain") ≡ false → bytes_eq word (codes "--stats") ≡ false → bytes_eq word (codes "--key") ≡ false
     → bytes_eq word (codes "--jsonl") ≡ false → bytes_eq word (codes "--strict") ≡ false → bytes_eq word (codes "--unique") ≡ false
     → (f : Flag) → bytes_eq word (flag_word f) ≡ false
 by_flag word p s k j t u plain = p
@@ -86,7 +86,7 @@ flag_named word =
     go false d false e false f false g false h false i = inr (by_flag word d e f g h i)
 
 -- a name is an operand, and so is the dash
-name_is : (x : ℕ) (xs : List ℕ) → (x == 45) ≡ false → ((f : Flag) → bytes_eq (x ∷ xs) (flag_word f) ≡ false) → IsOperand (x ∷ xs)
+pub name_is : (x : ℕ) (xs : List ℕ) → (x == 45) ≡ false → ((f : Flag) → bytes_eq (x ∷ xs) (flag_word f) ≡ false) → IsOperand (x ∷ xs)
 name_is x xs e none = record {
   no_dashes = rw e refl;
   no_long = rw e refl;
@@ -94,7 +94,7 @@ name_is x xs e none = record {
   no_flag = none;
 }
 
-dash_is : IsOperand (codes "-")
+pub dash_is : IsOperand (codes "-")
 dash_is = record {
   no_dashes = refl;
   no_long = refl;

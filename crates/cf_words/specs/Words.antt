@@ -1,7 +1,11 @@
 -- The words of the command line, and the command that they are.
 use Rattle.std.specs.Prelude.{◌≡◌, ⊤, ℕ, List, [], ◌∷◌, Bool, false, not, ◌&&◌, ◌||◌, ◌==◌, if◌then◌else◌, Option, Some, None, is_some, option_map, option_and_then, find, filter, codes, decimal, bytes_eq, Result, Ok, Err}
 use Rattle.std.specs.List.{list_all, list_any, range_with_len}
-use Rattle.cf_words.specs.Commands.{Command, compile, run, pre, check, exec, prove, verify, gen, help, version, plain_command}
+use Rattle.cf_print.specs.Names.{may_name}
+use Rattle.cf_print.specs.Words.{words_of}
+use Rattle.cf_print.specs.declared.language.Language.{Language}
+use Rattle.cf_print.specs.declared.language.Language.TheVariants.{C, Python, JavaScript}
+use Rattle.cf_words.specs.Commands.{Command, Emitting, compile, run, pre, check, exec, prove, emit, verify, gen, help, version, plain_command}
 use Rattle.cf_words.specs.declared.command.Command as declared
 use Rattle.cf_words.specs.declared.command.CheckFlags.{CheckFlags}
 use Rattle.cf_words.specs.declared.command.Flags.{Flags}
@@ -11,11 +15,14 @@ use Rattle.cf_words.specs.declared.command.Strictness.TheVariants as strictness
 use Rattle.cf_words.specs.declared.fault.WordsFault.{WordsFault}
 use Rattle.cf_words.specs.declared.fault.WordsFault.TheVariants.{Usage, NoMemory}
 
--- one of the six flags
+-- one of the six flags, and of the two of `emit`
 abbrev pub is_flag : List ℕ → Bool
 is_flag word =
     bytes_eq word (codes "--plain") || bytes_eq word (codes "--stats") || bytes_eq word (codes "--key") || bytes_eq word (codes "--jsonl")
     || bytes_eq word (codes "--strict") || bytes_eq word (codes "--unique")
+
+abbrev pub is_emit_flag : List ℕ → Bool
+is_emit_flag word = bytes_eq word (codes "--main") || bytes_eq word (codes "--name")
 
 -- a word that is not empty and does not begin with a dash
 abbrev pub is_name : List ℕ → Bool
@@ -41,8 +48,22 @@ are_once words =
     || stands_twice (codes "--jsonl") words || stands_twice (codes "--strict") words || stands_twice (codes "--unique") words)
 
 -- each word is an operand or one of the six flags, and no flag stands twice
+abbrev pub may_ask : List (List ℕ) → Bool
+may_ask words = list_all (λ w. is_flag w || is_operand w) words && are_once words
+
+-- the same of the flags of `emit`
+abbrev pub may_emit : List (List ℕ) → Bool
+may_emit words =
+    list_all (λ w. is_emit_flag w || is_operand w) words && not (stands_twice (codes "--main") words || stands_twice (codes "--name") words)
+
+-- the first word is `emit`
+abbrev pub is_emit : List (List ℕ) → Bool
+is_emit [] = false
+is_emit (first ∷ words) = bytes_eq first (codes "emit")
+
+-- each word is an operand or a flag, and no flag stands twice; `emit` has flags of its own
 abbrev pub may_be_parsed : List (List ℕ) → Bool
-may_be_parsed words = list_all (λ w. is_flag w || is_operand w) words && are_once words
+may_be_parsed words = if is_emit words then may_emit words else may_ask words
 
 -- what a single word asks about the program
 abbrev pub about_word : List ℕ → Option Command
@@ -140,11 +161,63 @@ abbrev pub verify_for : List (List ℕ) → Option Command
 verify_for (file ∷ steps ∷ []) = if is_name file && is_name steps then Some (verify file steps) else None
 verify_for words = None
 
--- behind the first word stand flags and one operand, or two names behind `verify`
+-- ---- emit
+-- the languages that are built
+abbrev pub language_of : List ℕ → Option Language
+language_of word =
+    if bytes_eq word (codes "c") then Some C
+    else if bytes_eq word (codes "python") then Some Python
+    else if bytes_eq word (codes "js") then Some JavaScript
+    else None
+
+-- what stands behind `--name`, or nothing where it stands last; and where it does not stand, the name that a function has then
+abbrev pub usual_name : List ℕ
+usual_name = codes "answer"
+
+abbrev pub first_or_none : List (List ℕ) → List ℕ
+first_or_none [] = []
+first_or_none (word ∷ words) = word
+
+abbrev pub name_in : List (List ℕ) → List ℕ
+name_in [] = usual_name
+name_in (word ∷ words) = if bytes_eq word (codes "--name") then first_or_none words else name_in words
+
+-- the words that are neither flags nor what stands behind `--name`
+abbrev mutual
+  pub emit_operands : List (List ℕ) → List (List ℕ)
+  emit_operands [] = []
+  emit_operands (word ∷ words) =
+      if bytes_eq word (codes "--name") then operands_behind_name words
+      else if bytes_eq word (codes "--main") then emit_operands words
+      else word ∷ emit_operands words
+
+  pub operands_behind_name : List (List ℕ) → List (List ℕ)
+  operands_behind_name [] = []
+  operands_behind_name (name ∷ words) = emit_operands words
+
+-- the command `emit`, where what is called from outside may have this name in the language, and where the word is that of a language
+abbrev pub emit_named : Emitting → List ℕ → Option Command
+emit_named e file = if may_name (words_of e.language) e.name then Some (emit e file) else None
+
+abbrev pub emit_on : List ℕ → Bool → List ℕ → List ℕ → Option Command
+emit_on word has_main name file =
+    option_and_then (λ l. emit_named (record { language = l; has_main = has_main; name = name }) file) (language_of word)
+
+-- it takes two operands
+abbrev pub emit_with : Bool → List ℕ → List (List ℕ) → Option Command
+emit_with has_main name (word ∷ file ∷ []) = emit_on word has_main name file
+emit_with has_main name operands = None
+
+abbrev pub emit_for : List (List ℕ) → Option Command
+emit_for words = emit_with (stands (codes "--main") words) (name_in words) (emit_operands words)
+
+-- ---- all
+-- behind the first word stand flags and one operand, or two names behind `verify`, or what `emit` takes
 abbrev pub command_in : List (List ℕ) → Option Command
 command_in [] = None
 command_in (first ∷ words) =
-    if bytes_eq first (codes "verify") then verify_for words
+    if bytes_eq first (codes "emit") then emit_for words
+    else if bytes_eq first (codes "verify") then verify_for words
     else option_and_then (command_for first (flags_in words) (form_in words) (checks_in words)) (only (operands words))
 
 -- the command that words are which say nothing about the program
@@ -154,6 +227,12 @@ command_parsed words = if may_be_parsed words then command_in words else None
 -- the command that the words are; none where they are no command
 abbrev pub command_of : List (List ℕ) → Option Command
 command_of words = if is_some (about words) then about words else command_parsed words
+
+-- what is answered to a word that is that of this language, or of none; want of memory is free
+abbrev pub LanguageAnswer : Option Language → Result Language WordsFault → Type 0
+LanguageAnswer asked (Ok language) = asked ≡ Some language
+LanguageAnswer asked (Err Usage) = asked ≡ None
+LanguageAnswer asked (Err NoMemory) = ⊤
 
 -- what is answered to words that are this command, or none; want of memory is free
 abbrev pub WordsAnswer : Option Command → Result declared.Command WordsFault → Type 0
