@@ -1,7 +1,8 @@
 -- Each command: the files that it reads, whether it reads the input, and what it does with the passes; each status: whether it comes early.
 use Rattle.std.proofs.Common.{◌≡◌, inl, inr, ℕ, Bool, true, false, List, [], ◌∷◌, refl, arith, codes}
 use Rattle.cf_pass.specs.Passes.{Told}
-use Rattle.cf_words.specs.Commands.{compile, run, pre, check, exec, prove, verify, gen, help, version}
+use Rattle.cf_print.specs.declared.language.Language.TheVariants.{C, Python}
+use Rattle.cf_words.specs.Commands.{Emitting, compile, run, pre, check, exec, prove, emit, verify, gen, help, version}
 use Rattle.cf_words.specs.declared.command.Flags.{Flags}
 use Rattle.cf_words.specs.declared.command.ReplyForm.{ReplyForm}
 use Rattle.cf_words.specs.declared.command.Strictness.TheVariants as strictness
@@ -18,6 +19,12 @@ form = record { key = false; jsonl = false }
 abbrev flags : Bool → Bool → Flags
 flags plain stats = record { plain = plain; stats = stats }
 
+abbrev in_c : Emitting
+in_c = record { language = C; has_main = false; name = codes "answer" }
+
+abbrev in_python : Emitting
+in_python = record { language = Python; has_main = true; name = codes "answer" }
+
 abbrev a : List ℕ
 a = codes "a"
 
@@ -28,6 +35,9 @@ b = codes "b"
 one-name : (names_of (compile (flags false false) a) ≡ a ∷ []) × (names_of (run (flags false false) form a) ≡ a ∷ []) × (names_of (pre a) ≡ a ∷ [])
     × (names_of (check strictness.Told a) ≡ a ∷ []) × (names_of (exec form a) ≡ a ∷ []) × (names_of (prove a) ≡ a ∷ [])
 one-name = (refl, refl, refl, refl, refl, refl)
+
+name-of_emit : (names_of (emit in_c a) ≡ a ∷ []) × (names_of (emit in_python a) ≡ a ∷ [])
+name-of_emit = (refl, refl)
 
 two-names : names_of (verify a b) ≡ a ∷ b ∷ []
 two-names = refl
@@ -44,12 +54,18 @@ unread-by : (reads_input (compile (flags false false) a) ≡ false) × (reads_in
     × (reads_input help ≡ false) × (reads_input version ≡ false)
 unread-by = (refl, refl, refl, refl, refl, refl, refl, refl)
 
+unread-by_emit : (reads_input (emit in_c a) ≡ false) × (reads_input (emit in_python a) ≡ false)
+unread-by_emit = (refl, refl)
+
 exec-is_given_it : input_for (exec form a) (codes "1\n") ≡ codes "1\n"
 exec-is_given_it = refl
 
 -- ---- passes
 called-by : (calls_passes (compile (flags false true) a) ≡ true) × (calls_passes (run (flags false true) form a) ≡ true) × (calls_passes (gen 7) ≡ true)
 called-by = (refl, refl, refl)
+
+called-by_emit : (calls_passes (emit in_c a) ≡ true) × (tells_tallies (emit in_c a) ≡ false)
+called-by_emit = (refl, refl)
 
 uncalled-by : (calls_passes (compile (flags true false) a) ≡ false) × (calls_passes (run (flags true false) form a) ≡ false) × (calls_passes (pre a) ≡ false)
     × (calls_passes (check strictness.Told a) ≡ false) × (calls_passes (exec form a) ≡ false) × (calls_passes (prove a) ≡ false) ×

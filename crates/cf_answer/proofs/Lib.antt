@@ -14,6 +14,8 @@ pub mod CheckLemmas
 mod CommandExamples
 pub mod CountLemmas
 mod DoesExamples
+mod EmitExamples
+pub mod EmitLemmas
 mod EndExamples
 pub mod EndedLemmas
 mod Examples

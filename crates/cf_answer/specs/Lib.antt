@@ -5,6 +5,7 @@ pub mod Certificates
 pub mod Checking
 pub mod Checks
 pub mod Commands
+pub mod Emitting
 pub mod Ends
 pub mod Forms
 pub mod LateReplies

@@ -20,14 +20,15 @@ use Rattle.cf_build.specs.Chooses.{all_chooses, by_number, limit_of, choose_arms
 use Rattle.cf_emit.specs.Printed.{target_text, pre_text}
 use Rattle.cf_emit.specs.ReadsBack.{ReadsBack}
 use Rattle.cf_late.specs.ChooseRun.{LateOutcome, solve_run}
-use Rattle.cf_pass.specs.Passes.{Told}
-use Rattle.cf_words.specs.Commands.{Command, compile, run, pre, check, exec, prove, verify, gen, help, version}
+use Rattle.cf_pass.specs.Passes.{Told, HaveTurned}
+use Rattle.cf_words.specs.Commands.{Command, compile, run, pre, check, exec, prove, emit, verify, gen, help, version}
 use Rattle.cf_words.specs.declared.command.ReplyForm.{ReplyForm}
 use Rattle.cf_answer.specs.About.{help_text, version_text}
 use Rattle.cf_form.specs.Branches.{Branch}
 use Rattle.cf_answer.specs.Branches.{AreBranched, valued}
 use Rattle.cf_answer.specs.Certificates.{AreProofs, AreVerified, verified_line}
 use Rattle.cf_answer.specs.Checks.{AreChecksBehind}
+use Rattle.cf_answer.specs.Emitting.{CompilesIn, IsEmitted}
 use Rattle.cf_answer.specs.Forms.{Wording, as_text, Form, form_of, InForm}
 use Rattle.cf_answer.specs.LateReplies.{main_comes, AreRunsAllowed}
 use Rattle.cf_answer.specs.Passes.{AreCalled, applied}
@@ -148,6 +149,8 @@ Owes (check strictness name) (file ∷ []) given last ls text = (a : Answered) �
 Owes (exec asked name) (file ∷ []) given last ls text =
     (t : RawTarget) × IsTypedTarget file (target_tree t) × AreReplies (record { by = by_target t; form = form_of asked [] }) ls text
 Owes (prove name) (file ∷ []) given last ls text = (cs : List (ChooseTree × Branch)) × AreBranched file cs × AreProofs (edition_of file) cs text
+Owes (emit e name) (file ∷ []) given last ls text =
+    (t : RawTarget) × CompilesIn e.language given last file t × HaveTurned given last × IsEmitted e file t text
 Owes (verify name steps_name) (source ∷ steps ∷ []) given last ls text =
     (cs : List (ChooseTree × Branch)) × AreBranched source cs × AreVerified (edition_of source) cs steps
     × (text ≡ flat_map (λ c. verified_line c.0) cs)

@@ -85,7 +85,7 @@ answers_line n so = concat (codes "check: " ∷ decimal n ∷ answers_verb n ∷
 
 -- where the words are no command
 abbrev pub usage_words : List ℕ
-usage_words = codes "usage: comfusy compile|pre|check|run|exec|prove FILE, or comfusy verify FILE STEPS, or comfusy gen N, or comfusy --help"
+usage_words = codes "usage: comfusy compile|pre|check|run|exec|prove FILE, or comfusy emit LANG FILE, or comfusy verify FILE STEPS, or comfusy gen N, or comfusy --help"
 
 abbrev pub fault_line : Fault → List ℕ
 fault_line fault.Usage = words_line usage_words
@@ -98,6 +98,7 @@ fault_line (fault.Rule e) = rule_line e
 fault_line (fault.Choose n r) = choose_line n r
 fault_line (fault.Weight f w) = count_line (codes "Weight") w
 fault_line (fault.Depth f d) = count_line (codes "Depth") d
+fault_line fault.NoSetsInC = words_line (codes "no sets in c")
 fault_line fault.BadTarget = words_line (codes "target not well typed")
 fault_line (fault.Steps e) = steps_line e
 fault_line (fault.Rejected n i j w) = rejected_line n i j w

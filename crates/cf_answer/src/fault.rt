@@ -43,6 +43,8 @@ pub enum Fault {
         function: u32,
         depth: u64,
     },
+    /// A set stands in the program, and it is to be written in C.
+    NoSetsInC,
     /// The target that the file spells is not well typed.
     BadTarget,
     /// The text of the steps file is refused.

@@ -21,7 +21,8 @@ pub enum Status {
     Output,
     /// The text spells no program, or no target.
     Text,
-    /// A rule on names or types is broken, or a target is not well typed.
+    /// A rule on names or types is broken, a target is not well typed, or a language has not the types of a
+    /// program.
     Types,
     NotLinear,
     /// A coefficient of a choose passes the limit of numbers.
@@ -107,6 +108,7 @@ fn fault_status(fault: &Fault) -> Status
         Fault::Choose { refusal, .. } => refusal_status(refusal),
         Fault::Weight { .. } => Status::Limit,
         Fault::Depth { .. } => Status::Limit,
+        Fault::NoSetsInC => Status::Types,
         Fault::BadTarget => Status::Types,
         Fault::Steps(_) => Status::Text,
         Fault::Rejected { .. } => Status::Rejected,

@@ -124,7 +124,7 @@ fn fault_line(fault: &Fault) -> Line<'static>
 {
     match fault {
         Fault::Usage => Line::Words(
-            b"usage: comfusy compile|pre|check|run|exec|prove FILE, or comfusy verify FILE STEPS, or comfusy gen N, or comfusy --help".as_slice(),
+            b"usage: comfusy compile|pre|check|run|exec|prove FILE, or comfusy emit LANG FILE, or comfusy verify FILE STEPS, or comfusy gen N, or comfusy --help".as_slice(),
         ),
         Fault::File => Line::Words(b"cannot read file".as_slice()),
         Fault::TextTooLong => Line::Words(b"text too long".as_slice()),
@@ -138,6 +138,7 @@ fn fault_line(fault: &Fault) -> Line<'static>
         },
         Fault::Weight { weight, .. } => weight_line(*weight),
         Fault::Depth { depth, .. } => depth_line(*depth),
+        Fault::NoSetsInC => Line::Words(b"no sets in c".as_slice()),
         Fault::BadTarget => Line::Words(b"target not well typed".as_slice()),
         Fault::Steps(fault) => steps_line(fault),
         Fault::Rejected {

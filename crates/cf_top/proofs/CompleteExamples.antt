@@ -202,7 +202,7 @@ abbrev errors : List ℕ → ℕ → SinkSeen
 errors bytes faults = record { held = Some bytes; faults = faults }
 
 abbrev usage : List ℕ
-usage = codes "usage: comfusy compile|pre|check|run|exec|prove FILE, or comfusy verify FILE STEPS, or comfusy gen N, or comfusy --help\n"
+usage = codes "usage: comfusy compile|pre|check|run|exec|prove FILE, or comfusy emit LANG FILE, or comfusy verify FILE STEPS, or comfusy gen N, or comfusy --help\n"
 
 refused-words : TopAnswer None passes before before (errors [] 0) (errors usage 0) Usage
 refused-words = record {
@@ -227,7 +227,7 @@ refused-words_untold = record {
   told = record {
     prefix = (
       codes "usa",
-      codes "ge: comfusy compile|pre|check|run|exec|prove FILE, or comfusy verify FILE STEPS, or comfusy gen N, or comfusy --help\n",
+      codes "ge: comfusy compile|pre|check|run|exec|prove FILE, or comfusy emit LANG FILE, or comfusy verify FILE STEPS, or comfusy gen N, or comfusy --help\n",
       refl,
       refl,
     );
