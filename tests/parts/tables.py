@@ -128,7 +128,7 @@ def try_words(row: Row, room: Room) -> Iterator[Check]:
         room.put(name, path.read_bytes())
     wanted, *words = row.texts
     seen = room.run(words if words != [b"-"] else [], NO_INPUT)
-    said = {b"2": USAGE, b"3": b"cannot read file\n"}.get(wanted, b"")
+    said = {b"2": USAGE, b"3": b"cannot read file\n", b"12": b"no memory\n"}.get(wanted, b"")
     yield ended(row.name(b" ".join(row.columns[:6])), seen, int(wanted.removesuffix(b" silent")), seen.out if wanted == b"0" else b"", said)
 
 
