@@ -1,8 +1,7 @@
 -- Which commands answer lines, and what an opened program owes, worked out.
 use Rattle.std.proofs.Common.{◌≡◌, refl, ℕ, true, false, List, [], ◌∷◌, codes}
 use Rattle.std.specs.Prelude.{Some, None}
-use Rattle.cf_print.specs.declared.language.Language.TheVariants.{C}
-use Rattle.cf_words.specs.Commands.{compile, run, pre, check, exec, prove, emit, verify, gen, help, version}
+use Rattle.cf_words.specs.Commands.{Emitting, compile, run, pre, check, exec, prove, emit, verify, gen, help, version}
 use Rattle.cf_words.specs.declared.command.Flags.{Flags}
 use Rattle.cf_words.specs.declared.command.ReplyForm.{ReplyForm}
 use Rattle.cf_words.specs.declared.command.Strictness.TheVariants as strictness
@@ -49,8 +48,8 @@ pre_does_not = refl
 prove_does_not : answers_lines (prove (codes "f")) ≡ false
 prove_does_not = refl
 
-emit_does_not : answers_lines (emit (record { language = C; has_main = true; name = codes "answer" }) (codes "f")) ≡ false
-emit_does_not = refl
+emit_does_not : (e : Emitting) → answers_lines (emit e (codes "f")) ≡ false
+emit_does_not e = refl
 
 verify_does_not : answers_lines (verify (codes "f") (codes "s")) ≡ false
 verify_does_not = refl
