@@ -1,5 +1,5 @@
 -- Which sources are refused in a language, and what is owed of the others.
-use Rattle.std.proofs.Common.{◌≡◌, ◌∙◌, ◌⊎◌, ◌≤◌, ◌<◌, ◌||◌, inl, inr, cond, refl, sym, ap, ap₂, subst, true≢false, ℕ, Bool, true, false, List, [], ◌∷◌, map, None, Some, Result, Ok, Err, arith}
+use Rattle.std.proofs.Common.{◌≡◌, ◌∙◌, ◌⊎◌, ◌≤◌, ◌<◌, ◌||◌, ◌&&◌, not, inl, inr, cond, refl, sym, ap, ap₂, subst, true≢false, ℕ, Bool, true, false, List, [], ◌∷◌, map, Option, None, Some, Result, Ok, Err, arith}
 use Rattle.std.specs.List.{list_any}
 use Rattle.std.specs.Option.{option_map_or}
 use Rattle.std.specs.Prelude.{IfOk, Contains, nat_le, slice_get}
@@ -16,7 +16,6 @@ use Rattle.cf_tree.specs.DefView.{RawItemTree}
 use Rattle.cf_tree.specs.Meaning.{Path, outcome_of, path}
 use Rattle.cf_tree.specs.Values.{Value, HaveBases, number_of}
 use Rattle.cf_parse.specs.Programs.{IsProgram, program_of}
-use Rattle.cf_parse.proofs.Programs.{one_law}
 use Rattle.cf_pass.specs.Passes.{Told, HaveTurned}
 use Rattle.cf_program.specs.Checked.{TypedTree}
 use Rattle.cf_program.specs.declared.linearity.Linearity.TheVariants.{Plain}
@@ -30,7 +29,7 @@ use Rattle.cf_range.specs.Ranges.{LieIn, whole}
 use Rattle.cf_range.specs.declared.range.Range.{Range}
 use Rattle.cf_range.proofs.NumberLemmas.{lies_whole}
 use Rattle.cf_stmt.specs.Blocks.{Block}
-use Rattle.cf_stmt.specs.Runs.{Run, checked}
+use Rattle.cf_stmt.specs.Runs.{checked, outcome_run, overflows}
 use Rattle.cf_stmt.specs.Statements.{IsStatements}
 use Rattle.cf_stmt.proofs.RunLaws.{statements_run}
 use Rattle.cf_print.specs.declared.language.Language.{Language}
@@ -63,10 +62,14 @@ alike_run p q h = by (leb_tells p.peak limit) (leb_tells q.peak limit)
   where
     by : ((nat_le p.peak limit ≡ true) × (p.peak ≤ limit)) ⊎ ((nat_le p.peak limit ≡ false) × (limit < p.peak)) →
         ((nat_le q.peak limit ≡ true) × (q.peak ≤ limit)) ⊎ ((nat_le q.peak limit ≡ false) × (limit < q.peak)) → checked q ≡ checked p
-    by (inl x) (inl y) = rw (x.0, y.0, (h.0 x.1).1) refl
+    by (inl x) (inl y) =
+        ap₂ (λ b g. cond b (outcome_run (outcome_of g)) overflows) y.0 (h.0 x.1).1
+        ∙ sym (ap (λ b. cond b (outcome_run (outcome_of p.gives)) overflows) x.0)
     by (inl x) (inr y) = absurd (omega (arith, (h.0 x.1).0, y.1))
     by (inr x) (inl y) = absurd (omega (arith, (h.1 y.1).0, x.1))
-    by (inr x) (inr y) = rw (x.0, y.0) refl
+    by (inr x) (inr y) =
+        ap (λ b. cond b (outcome_run (outcome_of q.gives)) overflows) y.0
+        ∙ sym (ap (λ b. cond b (outcome_run (outcome_of p.gives)) overflows) x.0)
 
 -- the statements of a target's code, which was tidied, answer as the target
 pub body_answers : (t : RawTarget) (rs : List Range) (tidy : CodeTree) (b : Block) → rs ≡ map (λ _. whole) t.params.items →
@@ -103,29 +106,29 @@ built_plain typed last t turned built = subst (λ ps. IsBuilt typed.defs typed.m
 pub no_sets_needed : (language : Language) (typed : TypedTree) (t : RawTarget) → has_sets language ≡ false → IsBuilt typed.defs typed.main [] [] t →
     (list_any is_set t.params.items || (list_any is_set t.results.items || uses_sets (code_tree t.code))) ≡ false → lacks_sets language typed ≡ false
 no_sets_needed language typed t without built none =
-    let is : main_has_sets typed ≡ false = sym (set_in_target typed t built) ∙ none in rw (without, is) refl
+    ap₂ (λ a b. not a && b) without (sym (set_in_target typed t built) ∙ none)
 
 pub sets_there : (language : Language) (typed : TypedTree) → has_sets language ≡ true → lacks_sets language typed ≡ false
-sets_there language typed there = rw there refl
+sets_there language typed there = ap (λ a. not a && main_has_sets typed) there
 
 -- of a built program no choose is refused
+apart : (o : Option Refusal) (r : Refusal) → o ≡ None → o ≡ Some r → ⊥
+apart o r none some = cc
+
 none_refused : (qs : List ChooseTree) → ((q : ChooseTree) → Contains qs q → limit_of q ≡ None) → first_refused (by_number qs) ≡ None
 none_refused qs within = by (first_refused (by_number qs)) refl
   where
-    by : (o : _) → first_refused (by_number qs) ≡ o → first_refused (by_number qs) ≡ None
+    by : (o : Option (ℕ × Refusal)) → first_refused (by_number qs) ≡ o → first_refused (by_number qs) ≡ None
     by None e = e
     by (Some (n, r)) e =
-        let q = refused_has qs n r e in
-        let none : limit_of q.0 ≡ None = within q.0 q.1 in
-        let some : limit_of q.0 ≡ Some r = q.3 in cc
+        let q = refused_has qs n r e in absurd (apart (limit_of q.0) r (within q.0 q.1) q.3)
 
 pub sets_needed : (language : Language) (text : List ℕ) (typed : TypedTree) (t : RawTarget) → IsTypedSource text typed → has_sets language ≡ false →
     IsBuilt typed.defs typed.main [] [] t →
     (list_any is_set t.params.items || (list_any is_set t.results.items || uses_sets (code_tree t.code))) ≡ true →
     IsRefusedEmission language text fault.NoSetsInC
 sets_needed language text typed t s without built set =
-    let is : main_has_sets typed ≡ true = sym (set_in_target typed t built) ∙ set in
-    let lacks : lacks_sets language typed ≡ true = rw (without, is) refl in
+    let lacks : lacks_sets language typed ≡ true = ap₂ (λ a b. not a && b) without (sym (set_in_target typed t built) ∙ set) in
     bad_tree s.0 fault.NoSetsInC s.1
     (no_sets typed s.2 (none_refused (all_chooses typed.defs) (λ q m. (built.solved q m).within)) lacks)
 
