@@ -1,8 +1,8 @@
 -- Which sources are refused in a language, and what is owed of the others.
-use Rattle.std.proofs.Common.{◌≡◌, ◌∙◌, ◌⊎◌, ◌≤◌, ◌<◌, ◌||◌, ◌&&◌, not, inl, inr, cond, refl, sym, ap, ap₂, subst, true≢false, ℕ, Bool, true, false, List, [], ◌∷◌, map, Option, None, Some, Result, Ok, Err, arith}
+use Rattle.std.proofs.Common.{◌≡◌, ◌∙◌, ◌⊎◌, ◌≤◌, ◌<◌, ◌||◌, ◌&&◌, not, inl, inr, cond, refl, sym, ap, ap₂, subst, true≢false, ℕ, Bool, true, false, List, [], ◌∷◌, map, Option, None, Some, arith}
 use Rattle.std.specs.List.{list_any}
 use Rattle.std.specs.Option.{option_map_or}
-use Rattle.std.specs.Prelude.{IfOk, Contains, nat_le, slice_get}
+use Rattle.std.specs.Prelude.{Contains, nat_le}
 use Rattle.std.proofs.lemmas.Bool.Decides.{leb_tells}
 use Rattle.cf_num.specs.Limit.{limit}
 use Rattle.cf_lex.specs.Editions.{edition_of}
@@ -14,6 +14,7 @@ use Rattle.cf_tree.specs.CodeTree.{CodeTree}
 use Rattle.cf_tree.specs.CodeView.{code_tree}
 use Rattle.cf_tree.specs.DefView.{RawItemTree}
 use Rattle.cf_tree.specs.Meaning.{Path, outcome_of, path}
+use Rattle.cf_tree.specs.Params.{bases_of}
 use Rattle.cf_tree.specs.Values.{Value, HaveBases, number_of}
 use Rattle.cf_parse.specs.Programs.{IsProgram, program_of}
 use Rattle.cf_pass.specs.Passes.{Told, HaveTurned}
@@ -34,9 +35,8 @@ use Rattle.cf_stmt.specs.Statements.{IsStatements}
 use Rattle.cf_stmt.proofs.RunLaws.{statements_run}
 use Rattle.cf_print.specs.declared.language.Language.{Language}
 use Rattle.cf_print_shape.specs.Sets.{is_set, uses_sets}
-use Rattle.cf_print_program.specs.Printed.{IsPrint, has_sets}
-use Rattle.cf_words.specs.Commands.{Emitting}
-use Rattle.cf_answer.specs.Emitting.{AnswersAs, CompilesIn, IsEmitted, lacks_sets, main_has_sets, printing, takes_sets}
+use Rattle.cf_print_program.specs.Printed.{has_sets}
+use Rattle.cf_answer.specs.Emitting.{AnswersAs, CompilesIn, lacks_sets, main_has_sets, takes_sets}
 use Rattle.cf_answer.specs.Limits.{of_source}
 use Rattle.cf_answer.specs.Refusals.{IsBadProgram, unruly, refused, IsBadEmission, bad_program, no_sets, bad_tree, IsRefusedEmission, IsRefusedSource}
 use Rattle.cf_answer.specs.Sources.{SpellsProgram, IsTypedBy, IsTypedSource}
@@ -79,11 +79,6 @@ body_answers t rs tidy b is same s = λ vs bases small.
     ∙ alike_run (path (code_tree t.code) vs) (path tidy vs)
     (same vs (subst (λ v. LieIn v vs) (sym is) (whole_holds t.params.items vs bases small)))
 
-pub printed_is_emitted : (r : Result (List ℕ) Fault) (e : Emitting) (source : List ℕ) (t : RawTarget) (b : Block) → AnswersAs b t →
-    IfOk r (λ text. IsPrint (printing e source t b) text) → IfOk r (λ text. IsEmitted e source t text)
-printed_is_emitted (Ok text) e source t b answers print = record { body = b; answers = answers; print = print }
-printed_is_emitted (Err f) e source t b answers print = tt
-
 -- ---- sets
 -- the target that no pass rewrites has main's parameters, results and code
 set_in_target : (typed : TypedTree) (t : RawTarget) → IsBuilt typed.defs typed.main [] [] t →
@@ -91,7 +86,7 @@ set_in_target : (typed : TypedTree) (t : RawTarget) → IsBuilt typed.defs typed
 set_in_target typed t b =
     let d = b.like_main in
     (λ i. list_any is_set (d.2 i) || (list_any is_set (d.3 i) || uses_sets (b.made i)))
-    ∙ or_behind (list_any is_set _) (list_any is_set d.0.results) (uses_sets (unfolded_code typed.defs typed.main))
+    ∙ or_behind (list_any is_set (bases_of d.0.params)) (list_any is_set d.0.results) (uses_sets (unfolded_code typed.defs typed.main))
     ∙ ap (λ o. option_map_or takes_sets o false || uses_sets (unfolded_code typed.defs typed.main)) (sym d.1)
   where
     or_behind : (a b c : Bool) → (a || (b || c)) ≡ ((a || b) || c)
