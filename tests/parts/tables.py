@@ -41,8 +41,8 @@ NOT_LINEAR = 8
 STRICT = {b"no": 14, b"undecided": 15}
 INPUT_LONG = b"11"
 TALLIES = b"# fold 0\n# drop-needs 0\n# drop-arms 0\n# drop-lets 0\n"
-OTHER_COMMANDS = ("compile", "file"), ("pre", "file"), ("check", "file"), ("prove", "file"), ("verify", "file", "missing")
-ON_A_SOURCE = "compile", "pre", "check", "prove", "verify", "run"
+OTHER_COMMANDS = ("compile", "file"), ("emit", "python", "file"), ("pre", "file"), ("check", "file"), ("prove", "file"), ("verify", "file", "missing")
+ON_A_SOURCE = "compile", "emit", "pre", "check", "prove", "verify", "run"
 REFUSING = {b"every": ON_A_SOURCE, b"but run": ON_A_SOURCE[:-1], b"but verify": (*ON_A_SOURCE[:-2], "run"), b"run": ("run",)}
 
 
@@ -111,7 +111,7 @@ def try_refused(row: Row, room: Room) -> Iterator[Check]:
     commands, status, _, program = row.columns
     room.put("p.cf", row.texts[3])
     for command in REFUSING[commands]:
-        words = (command, "p.cf", "missing") if command == "verify" else (command, "p.cf")
+        words = {"verify": (command, "p.cf", "missing"), "emit": (command, "python", "p.cf")}.get(command, (command, "p.cf"))
         yield ended(row.name(program.removeprefix(b"comfusy 3\\n") + b", " + command.encode()), room.run(words, NO_INPUT), int(status), err=row.texts[2])
 
 
