@@ -162,8 +162,10 @@ def done(room: Room, command: Sequence[str], given: str | None = None) -> subpro
 
 
 def answered(room: Room, name: str, target: bytes, own: bytes, count: int) -> subprocess.CompletedProcess[bytes]:
-    """What `exec` replies to the lines of a program and to others, which stand in the file `input` behind it. Where they take too long, or more than 2 GB of memory,
-    fewer are asked."""
+    """What `exec` replies to the lines of a program and to others, which stand in the file `input` behind it.
+
+    Where they take too long, or more than 2 GB of memory, fewer are asked.
+    """
     own = own + b"\n" if own and not own.endswith(b"\n") else own
     room.put("target", target)
     while True:

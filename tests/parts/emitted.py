@@ -1,6 +1,7 @@
-"""What `emit` writes of the examples and of the cases that `run` is done with: its filter answers as `exec` does, byte for byte, on their lines and on others, near
-the limit and spoilt; and the file without one is taken. It is done with what is installed of gcc or clang, with all warnings as errors, this Python and Node.
-`trials/emitted` does the same with more.
+"""What `emit` writes of the examples, and of the cases that `run` is done with.
+
+Its filter answers as `exec` does, byte for byte, on their lines and on others, near the limit and spoilt; and the file without one is taken. It is done with
+what is installed of gcc or clang, with all warnings as errors, this Python and Node. `trials/emitted` does the same with more.
 """
 
 from __future__ import annotations
