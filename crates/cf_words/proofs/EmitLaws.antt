@@ -337,7 +337,7 @@ no_name name h m (language ∷ file ∷ other ∷ os) = refl
 
 -- no flag comes that came before, and none comes twice
 abbrev comes_again : Text → Bool → List Text → Bool
-comes_again flag came words = cond came (stands flag words) (stands_twice flag words)
+comes_again dashed came words = cond came (stands dashed words) (stands_twice dashed words)
 
 record AreOnce (m : Bool) (n : Option Text) (words : List Text) : Type 0 where
   main : comes_again (codes "--main") m words ≡ false
@@ -359,9 +359,9 @@ module _ (word : Text) (is_one : IsEmitOperand word) where
   name_asked : (m : Bool) (g : Given) (words : List Text) → asked_behind m None g (codes "--name" ∷ word ∷ words) ≡ asked_behind m (Some word) g words
   name_asked m g words = ap (λ b. emit_with (m || (b || stands (codes "--main") words)) word (given g ++ emit_operands words)) is_one.no_main
 
-  comes_behind : (m : Bool) (word : Text) (words : List Text) → bytes_eq word word ≡ false →
-      comes_again flag m (word ∷ words) ≡ comes_again flag m words
-  comes_behind m flag words other = ap (λ b. cond m (b || stands flag words) (cond b (stands flag words) (stands_twice flag words))) other
+  comes_behind : (m : Bool) (dashed : Text) (words : List Text) → bytes_eq word dashed ≡ false →
+      comes_again dashed m (word ∷ words) ≡ comes_again dashed m words
+  comes_behind m dashed words other = ap (λ b. cond m (b || stands dashed words) (cond b (stands dashed words) (stands_twice dashed words))) other
 
   once_behind : (m : Bool) (n : Option Text) (words : List Text) → AreOnce m n (word ∷ words) → AreOnce m n words
   once_behind m n words h = record {
