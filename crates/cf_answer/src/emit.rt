@@ -102,12 +102,14 @@ fn compiled(
 }
 
 // What is known of parameters.
-fn whole_ranges(alloc: Global, bases: &[Base]) -> Result<Vec<Range>, NoMemory>
+fn ranges_of(alloc: Global, bases: &[Base]) -> Result<Vec<Range>, NoMemory>
     ensures { IfOk result (λ all. all.items ≡ map (λ b. whole) bases.now) }
 {
     let mut all = Vec::new(alloc);
-    for _base in bases {
+    let mut left = bases;
+    'bases: while let Some((_base, more)) = left.split_first() {
         all.push(Range::whole())?;
+        left = more;
     }
     Ok(all)
 }
@@ -116,7 +118,7 @@ fn whole_ranges(alloc: Global, bases: &[Base]) -> Result<Vec<Range>, NoMemory>
 fn body_of(alloc: Global, target: &Target) -> Result<Box<Block>, NoMemory>
     ensures { IfOk result (λ b. AnswersAs (block_tree b.value) target.now) }
 {
-    let ranges = whole_ranges(alloc, target.params())?;
+    let ranges = ranges_of(alloc, target.params())?;
     let code = tidied(alloc, &ranges, target.body())?;
     statements(alloc, &code)
 }
