@@ -41,11 +41,7 @@ fn has_factor(factor: &Option<Number>) -> bool {
     }
 }
 
-fn variables_of(
-    alloc: Global,
-    constants: &[&[u8]],
-    parts: &[Part],
-) -> Result<Vec<Text>, NoMemory> {
+fn variables_of(alloc: Global, constants: &[&[u8]], parts: &[Part]) -> Result<Vec<Text>, NoMemory> {
     let mut names = Vec::new(alloc);
     for part in parts {
         if is_variable(constants, part) {
@@ -90,12 +86,7 @@ fn put_match(met: &mut Met) {
 /// # Errors
 /// `NoMemory` where memory ran out.
 #[cycle(meet)]
-pub fn meet(
-    alloc: Global,
-    constants: &[&[u8]],
-    raw: &Raw,
-    met: &mut Met,
-) -> Result<(), NoMemory> {
+pub fn meet(alloc: Global, constants: &[&[u8]], raw: &Raw, met: &mut Met) -> Result<(), NoMemory> {
     match &raw.node {
         RawNode::Lit(_) | RawNode::Truth(_) | RawNode::Name(_) => Ok(()),
         RawNode::Group(a)

@@ -154,9 +154,7 @@ fn read(
         | CommandKind::Pre
         | CommandKind::Check(_)
         | CommandKind::Prove
-        | CommandKind::Emit(_) => {
-            unreachable!()
-        }
+        | CommandKind::Emit(_) => { unreachable!() }
     }
 }
 

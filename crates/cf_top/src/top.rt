@@ -17,8 +17,8 @@ ghost use Rattle.cf_words.specs.Words.{command_of, may_be_read};
 
 use cf_answer::{
     Ended, Fault, Status, longest_text, longest_written, run_source, run_target, status_of, tell,
-    verify_files, write_blocks, write_checks, write_emitted, write_help, write_preconditions, write_target,
-    write_version, write_workload,
+    verify_files, write_blocks, write_checks, write_emitted, write_help, write_preconditions,
+    write_target, write_version, write_workload,
 };
 use cf_io::{FetchFault, Shelf, Sink, Source, read_front};
 use cf_pass::Pass;

@@ -164,11 +164,7 @@ fn emit_named<'a>(
     ensures command { WordsAnswer (the_emit_named (plain_emitting emitting.entry) file.now) result }
     ensures size { IfOk result HasSize }
 {
-    match may_name(
-        alloc,
-        words_of(emitting.language),
-        emitting.name.as_bytes(),
-    ) {
+    match may_name(alloc, words_of(emitting.language), emitting.name.as_bytes()) {
         Ok(may) => if may {
             Ok(emit(emitting, file))
         } else {
@@ -179,8 +175,12 @@ fn emit_named<'a>(
 }
 
 fn emit<'a>(emitting: Emitting<'a>, file: &'a str) -> Command<'a>
-    ensures { result ≡ Command.OnFile (record { kind = CommandKind.Emit emitting.entry; flags = record { plain = false; stats = false };
-        form = record { key = false; jsonl = false }; file = file.entry }) }
+    ensures { result ≡ Command.OnFile (record {
+      kind = CommandKind.Emit emitting.entry;
+      flags = record { plain = false; stats = false };
+      form = record { key = false; jsonl = false };
+      file = file.entry;
+    }) }
 {
     let flags = Flags {
         plain: false,
@@ -366,12 +366,7 @@ fn silent<'a>(kind: CommandKind<'a>, flags: Flags, file: &'a str) -> Command<'a>
     on_file(kind, flags, form, file)
 }
 
-fn on_file<'a>(
-    kind: CommandKind<'a>,
-    flags: Flags,
-    form: ReplyForm,
-    file: &'a str,
-) -> Command<'a>
+fn on_file<'a>(kind: CommandKind<'a>, flags: Flags, form: ReplyForm, file: &'a str) -> Command<'a>
     ensures { result ≡ Command.OnFile (record { kind = kind.entry; flags = flags; form = form; file = file.entry }) }
 {
     Command::OnFile(FileCommand {
