@@ -65,7 +65,7 @@ class Checkout:
     def _make_kit(self) -> None:
         (self.kit / "bin").mkdir(parents=True)
         (self.kit / "KIT-ID").write_text("a kit\n")
-        (self.kit / "WHAT").write_text("its parts\n")
+        (self.kit / "WHAT").write_text("a compiler\n")
         kit = self.kit / "bin/rt"
         kit.write_text(f"#!/bin/sh\ntouch '{self.asked}'\necho usage: comfusy\n")
         kit.chmod(0o755)
@@ -113,9 +113,11 @@ def try_dist(room: Room) -> Checks:
     (crate / "src/new.rt").write_text("// a file\n")
     yield try_start(checkout, "with one source more", "built")
     (crate / "src/new.rt").unlink()
-    (checkout.kit / "KIT-ID").write_text("another kit\n")
+    (checkout.kit / "KIT-ID").write_text("another name\n")
+    yield try_start(checkout, "with a kit of another name", "shipped")
+    (checkout.kit / "WHAT").write_text("another compiler\n")
     yield try_start(checkout, "with another kit", "built")
-    (checkout.kit / "KIT-ID").unlink()
+    (checkout.kit / "WHAT").unlink()
     yield try_start(checkout, "without a kit", "shipped")
     with (checkout.top / "dist/comfusy").open("ab") as file:
         file.write(b"\n")

@@ -1,8 +1,12 @@
--- The ends of loops, one after another, and how often a number stands in a list.
+-- The ends of loops, one after another, how often a number stands in a list, and new names.
 use Rattle.std.proofs.Common.{◌≡◌, ◌∙◌, ℕ, suc, ◌+◌, ◌-◌, ◌<◌, Bool, true, false, List, ◌++◌, ap, subst, arith, if◌then◌else◌}
+use Rattle.std.specs.Prelude.{Option}
 use Rattle.std.proofs.lemmas.List.{append_assoc}
+use Rattle.cf_tree.specs.declared.base.Base.{Base}
+use Rattle.cf_print.specs.Names.{new_name}
 use Rattle.cf_print.specs.declared.language.Language.{Language}
 use Rattle.cf_print_line.specs.Layout.{end_lines}
+use Rattle.cf_print_block.specs.Places.{Setting, words, name_in}
 use Rattle.cf_print_block.specs.Statements.{loop_ends}
 
 -- the end of the next loop, at a depth n
@@ -20,3 +24,9 @@ pub one_counted : (is_one : Bool) (times new rest all : ℕ) → new ≡ (if is_
     times + (if is_one then suc rest else rest) ≡ all → new + rest ≡ all
 one_counted true times new rest all is e = omega (arith, is, e)
 one_counted false times new rest all is e = omega (arith, is, e)
+
+-- a name among these words, which are those of the language
+pub name_among : (s : Setting) (ws : List ℕ) (taken : List (List ℕ)) (b : Base) (wish : Option (List ℕ)) (name : List ℕ) → ws ≡ words s →
+    name ≡ new_name ws taken b wish → name ≡ name_in s taken b wish
+unfolding name_in
+name_among s ws taken b wish name same is = is ∙ ap (λ u. new_name u taken b wish) same

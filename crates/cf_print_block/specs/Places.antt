@@ -1,5 +1,5 @@
 -- What is known at a place in printed statements, and what is written so far.
-use Rattle.std.specs.Prelude.{ℕ, zero, suc, Bool, true, false, nat_eq, nat_lt, List, [], ◌∷◌, ◌++◌, length, take, Option, Some, None, if◌then◌else◌, slice_index_or, codes, decimal}
+use Rattle.std.specs.Prelude.{ℕ, suc, Bool, true, false, nat_eq, List, [], ◌∷◌, ◌++◌, length, take, Option, Some, None, if◌then◌else◌, slice_get}
 use Rattle.cf_tree.specs.declared.base.Base.{Base}
 use Rattle.cf_tree.specs.declared.base.Base.TheVariants.{Int, Bool as Truth, Set}
 use Rattle.cf_tree.specs.CodeTree.{CodeTree, code_lit, code_truth, code_var, code_set_of, code_tuple, code_sum, code_sub, code_mul, code_neg, code_div, code_mod, code_min, code_max, code_compare, code_divides, code_and, code_or, code_not, code_union, code_inter, code_diff, code_subset, code_card, code_slice, code_fresh, code_if, code_let, code_solve, CodeTrees, no_codes, code_more}
@@ -11,6 +11,7 @@ use Rattle.cf_print_term.specs.Marks.{mark_text}
 use Rattle.cf_print_term.specs.Expressions.{Sight, base_of, term_of, opposite_of, denied}
 use Rattle.cf_print_term.specs.Rows.{table_of}
 use Rattle.cf_print.specs.Words.{words_of}
+use Rattle.cf_print.specs.Names.{new_name}
 use Rattle.cf_print.specs.declared.language.Language.{Language}
 use Rattle.cf_print_term.specs.declared.table.Table.{Table}
 use Rattle.cf_print_shape.specs.declared.exit.Exit.{Exit}
@@ -30,6 +31,10 @@ table s = table_of s.language
 
 abbrev pub words : Setting → List ℕ
 words s = words_of s.language
+
+-- a new name for a value of a base
+unfoldable pub name_in : Setting → List (List ℕ) → Base → Option (List ℕ) → List ℕ
+name_in s taken b wish = new_name (words s) taken b wish
 
 -- ---- places
 
@@ -140,15 +145,7 @@ pub record Held : Type 0 where
 
 -- ---- wishes
 
--- the name that a value wishes for, and whether statements read it
-pub record Wish : Type 0 where
-  pub name : Option (List ℕ)
-  pub is_read : Bool
-
--- the k-th of some names, where there are so many
-abbrev pub nth_wish : List (List ℕ) → ℕ → Option (List ℕ)
-nth_wish names k = if nat_lt k (length names) then Some (slice_index_or names k []) else None
-
+-- the name at a place, where there is one
 abbrev pub wish_at : List (List ℕ) → Option ℕ → Option (List ℕ)
 wish_at names None = None
-wish_at names (Some k) = nth_wish names k
+wish_at names (Some k) = slice_get names k

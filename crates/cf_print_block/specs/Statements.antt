@@ -1,14 +1,13 @@
 -- The statements of a block, in a language.
-use Rattle.std.specs.Prelude.{ℕ, zero, suc, ◌+◌, Bool, true, false, ◌&&◌, ◌||◌, List, [], ◌∷◌, ◌++◌, map, length, take, Option, Some, None, codes, decimal, nat_eq, pred, if◌then◌else◌, pos}
+use Rattle.std.specs.Prelude.{ℕ, zero, suc, ◌+◌, ◌-◌, Bool, true, false, List, [], ◌∷◌, ◌++◌, map, length, Option, Some, None, codes, decimal, nat_eq, nat_lt, if◌then◌else◌, slice_get, pos}
 use Rattle.cf_tree.specs.declared.base.Base.{Base}
 use Rattle.cf_tree.specs.declared.base.Base.TheVariants.{Int}
 use Rattle.cf_range.specs.Ranges.{between, whole}
 use Rattle.cf_stmt.specs.Blocks.{Block, give, none, leave, bind, part, join, test, arm}
 use Rattle.cf_print_term.specs.Expressions.{Sight}
-use Rattle.cf_print.specs.Names.{new_name}
 use Rattle.cf_print_line.specs.Heads.{all_parameters, part_opening, part_closing}
 use Rattle.cf_print_line.specs.Layout.{line, let_lines, read_lines, comment_text, none_text, next_text, fall_lines, if_text, guard_text, end_lines, guard_end, else_lines, scope_lines, search_text, give_lines, call_lines}
-use Rattle.cf_print_block.specs.Places.{Setting, table, words, deeper, leaving_by, behind_arm, outputs_at, giving_of, giving, Draft, put, taking, freed, given, variable, first_at_hand, behind_one, behind, ahead, Held, Wish, nth_wish, wish_at}
+use Rattle.cf_print_block.specs.Places.{Setting, table, name_in, deeper, leaving_by, behind_arm, outputs_at, giving_of, giving, Draft, put, taking, freed, given, variable, first_at_hand, behind_one, behind, ahead, Held, wish_at}
 use Rattle.cf_print_shape.specs.Shapes.{number_of, is_none, is_leave, exit_of, gives, is_straight, can_fall, is_plain, block_reads, those_read, results_of}
 use Rattle.cf_print_shape.specs.Wishes.{given_at}
 use Rattle.cf_print.specs.declared.language.Language.{Language}
@@ -19,6 +18,9 @@ use Rattle.cf_print_block.specs.declared.place.Place.{Place}
 use Rattle.cf_print_block.specs.declared.naming.Role.{Role}
 use Rattle.cf_print_block.specs.declared.naming.Role.TheVariants.{Value as AValue, Pointer}
 use Rattle.cf_print_block.specs.declared.values.AtHand.{AtHand}
+use Rattle.cf_print_block.specs.declared.values.Wish.{Wish}
+use Rattle.cf_print_block.specs.declared.searches.Loops.{Loops}
+use Rattle.cf_print_block.specs.declared.inner.Inner.{Inner}
 
 -- ---- values in variables
 
@@ -32,7 +34,7 @@ with_value v d h = record { values = h.values ++ (v ∷ []); draft = d }
 -- a value gets a variable, if it is none
 unfoldable pub with_let : Setting → ℕ → Wish → AtHand → Held → Held
 with_let s depth wish v h =
-    let name = new_name (words s) h.draft.taken v.base wish.name in
+    let name = name_in s h.draft.taken v.base wish.name in
     with_value (variable (table s) v.base v.range name)
     (taking name (put (let_lines s.language depth wish.is_read v.base name v.text) h.draft)) h
 
@@ -40,30 +42,41 @@ unfoldable pub with_variable : Setting → ℕ → Wish → AtHand → Held → 
 with_variable s depth wish v h =
     if v.is_variable then with_value v (put (read_lines s.language depth wish.is_read v.text) h.draft) h else with_let s depth wish v h
 
--- the values from the k-th on, behind those that have variables
-abbrev pub in_variables : Setting → ℕ → (ℕ → Wish) → ℕ → List AtHand → Held → Held
-in_variables s depth wish k [] h = h
-in_variables s depth wish k (v ∷ vs) h = in_variables s depth wish (suc k) vs (with_variable s depth (wish k) v h)
+-- values in variables, each by the same wish, behind those that have variables
+abbrev pub in_variables : Setting → ℕ → Wish → List AtHand → Held → Held
+in_variables s depth wish [] h = h
+in_variables s depth wish (v ∷ vs) h = in_variables s depth wish vs (with_variable s depth wish v h)
 
 abbrev pub no_values : Draft → Held
 no_values d = record { values = []; draft = d }
 
-unfoldable pub all_in_variables : Setting → ℕ → (ℕ → Wish) → Held → Held
-all_in_variables s depth wish h = in_variables s depth wish 0 h.values (no_values h.draft)
+unfoldable pub all_in_variables : Setting → ℕ → Wish → Held → Held
+all_in_variables s depth wish h = in_variables s depth wish h.values (no_values h.draft)
 
--- of the k-th value that a block gets behind the variables from x on
-abbrev pub wish_in : Setting → Place → ℕ → Block → ℕ → Wish
-wish_in s p x b k = record { name = wish_at (outputs_at s p.giving) (given_at 0 b (x + k)); is_read = block_reads (x + k) b }
+abbrev pub no_wish : Wish
+no_wish = record { name = None; is_read = true }
 
-abbrev pub no_wish : ℕ → Wish
-no_wish k = record { name = None; is_read = true }
+abbrev pub never_read : Wish
+never_read = record { name = None; is_read = false }
 
-abbrev pub never_read : ℕ → Wish
-never_read k = record { name = None; is_read = false }
+-- of a value that a block gets as the variable x
+abbrev pub wish_for : Setting → Place → Block → ℕ → Wish
+wish_for s p b x = record { name = wish_at (outputs_at s p.giving) (given_at 0 b x); is_read = block_reads x b }
 
--- values for a block that reads them as the variables from x on
+-- values in variables, which are those of a block from x on
+abbrev pub as_variables : Setting → Place → Block → ℕ → List AtHand → Held → Held
+as_variables s p b x [] h = h
+as_variables s p b x (v ∷ vs) h = as_variables s p b (suc x) vs (with_variable s p.depth (wish_for s p b x) v h)
+
 unfoldable pub bound_for : Setting → Place → ℕ → Block → Held → Held
-bound_for s p x b h = all_in_variables s p.depth (wish_in s p x b) h
+bound_for s p x b h = as_variables s p b x h.values (no_values h.draft)
+
+-- a block that gets values behind the variables, or one before them
+unfoldable pub inner_behind : Setting → Place → Sight → Block → Held → Inner
+inner_behind s p w b h = let k = bound_for s p (length w.names) b h in record { scope = behind w k.values; draft = k.draft }
+
+unfoldable pub inner_ahead : Setting → Place → Sight → Block → Held → Inner
+inner_ahead s p w b h = let k = bound_for s p 0 b h in record { scope = ahead (first_at_hand k.values) w; draft = k.draft }
 
 -- values stay as they are where no statement comes between
 unfoldable pub kept : Setting → ℕ → Bool → Held → Held
@@ -94,14 +107,14 @@ pointer_wish (Some o) = codes "out_" ++ o
 
 -- the wish for the k-th name of some variables, where these are asked
 abbrev pub role_wish : Role → List (List ℕ) → ℕ → Option (List ℕ)
-role_wish AValue asked k = nth_wish asked k
-role_wish Pointer asked k = Some (pointer_wish (nth_wish asked k))
+role_wish AValue asked k = slice_get asked k
+role_wish Pointer asked k = Some (pointer_wish (slice_get asked k))
 
 -- names for variables of these bases, from the k-th on
 abbrev pub names_for : Setting → Role → List (List ℕ) → ℕ → List Base → List (List ℕ) → List (List ℕ)
 names_for s r asked k [] taken = []
 names_for s r asked k (b ∷ bs) taken =
-    let name = new_name (words s) taken b (role_wish r asked k) in name ∷ names_for s r asked (suc k) bs (taken ++ (name ∷ []))
+    let name = name_in s taken b (role_wish r asked k) in name ∷ names_for s r asked (suc k) bs (taken ++ (name ∷ []))
 
 -- in C a pointer for each result
 abbrev pub has_pointers : Language → Bool
@@ -158,7 +171,7 @@ variables s _ _ = []
 unfoldable pub results_held : Setting → ℕ → Function → List ℕ → List (List ℕ) → List (List ℕ) → Draft → Held
 results_held s depth f lines pointers taken done =
     let names = names_for s AValue (outputs_at s (giving_of f.number)) 0 f.results taken in
-    let status = new_name (words s) (taken ++ names) Int (Some (codes "status")) in
+    let status = name_in s (taken ++ names) Int (Some (codes "status")) in
     record {
       values = variables s names f.results;
       draft = record {
@@ -206,12 +219,18 @@ arm_lines l p None = arm_comment l p
 
 -- ---- tests: a side that only leaves is a guard
 
+-- behind the first side, whose names are free again, and behind the second
+unfoldable pub first_side : Setting → Place → AtHand → (Place → Draft → Draft) → Draft → Draft
+first_side s p v side d = freed (length d.taken) (side (deeper p) (put (line s.language p.depth (if_text s.language v.text)) d))
+
+unfoldable pub second_side : Setting → Place → ℕ → (Place → Draft → Draft) → Draft → Draft
+second_side s p n side d = freed n (side (deeper p) (put (else_lines s.language p.depth) d))
+
 unfoldable pub branched : Setting → Place → Block → Block → AtHand → (Place → Draft → Draft) → (Place → Draft → Draft) → Draft → Draft
 branched s p a b v yes_side no_side d =
-    let behind_yes = freed (length d.taken) (yes_side (deeper p) (put (line s.language p.depth (if_text s.language v.text)) d)) in
+    let behind_yes = first_side s p v yes_side d in
     if is_leave b then put (end_lines s.language p.depth) behind_yes
-    else if can_fall a
-    then put (end_lines s.language p.depth) (freed (length d.taken) (no_side (deeper p) (put (else_lines s.language p.depth) behind_yes)))
+    else if can_fall a then put (end_lines s.language p.depth) (second_side s p (length d.taken) no_side behind_yes)
     else no_side p (put (end_lines s.language p.depth) behind_yes)
 
 -- what the sides come to that only leave, the second first
@@ -220,16 +239,16 @@ tested_by (Some e) f s p a b v yes_side no_side d = yes_side p (put (guard_lines
 tested_by None (Some e) s p a b v yes_side no_side d = no_side p (put (guard_lines s.language p.depth v.text e) d)
 tested_by None None s p a b v yes_side no_side d = branched s p a b v yes_side no_side d
 
-unfoldable pub tested : Setting → Place → Block → Block → AtHand → (Place → Draft → Draft) → (Place → Draft → Draft) → Draft → Draft
-tested s p a b v yes_side no_side d = tested_by (exit_of p.exit b) (exit_of p.exit a) s p a b v yes_side no_side d
+unfoldable pub tested : Setting → Place → Block → Block → Held → (Place → Draft → Draft) → (Place → Draft → Draft) → Draft
+tested s p a b h yes_side no_side = tested_by (exit_of p.exit b) (exit_of p.exit a) s p a b (first_at_hand h.values) yes_side no_side h.draft
 
 abbrev pub guarded_by : Option Exit → Option Exit → Setting → Place → AtHand → (Place → Draft → Held) → (Place → Draft → Held) → Draft → Held
 guarded_by (Some e) f s p v yes_side no_side d = yes_side p (put (guard_lines s.language p.depth v.denied e) d)
 guarded_by None (Some e) s p v yes_side no_side d = no_side p (put (guard_lines s.language p.depth v.text e) d)
 guarded_by None None s p v yes_side no_side d = no_values d
 
-unfoldable pub guarded : Setting → Place → Block → Block → AtHand → (Place → Draft → Held) → (Place → Draft → Held) → Draft → Held
-guarded s p a b v yes_side no_side d = guarded_by (exit_of p.exit b) (exit_of p.exit a) s p v yes_side no_side d
+unfoldable pub guarded : Setting → Place → Block → Block → Held → (Place → Draft → Held) → (Place → Draft → Held) → Held
+guarded s p a b h yes_side no_side = guarded_by (exit_of p.exit b) (exit_of p.exit a) s p (first_at_hand h.values) yes_side no_side h.draft
 
 -- ---- arms
 
@@ -245,28 +264,24 @@ plain_arm s p None body later d =
     let ended = body (arm_place s.language p) (put (scope_lines s.language p.depth) (put (arm_lines s.language p None) d)) in
     later (behind_arm p) (put (end_lines s.language p.depth) (freed (length d.taken) ended))
 
-abbrev pub search_wish : ℕ → Option (List ℕ)
-search_wish zero = Some (codes "i")
-search_wish (suc zero) = Some (codes "j")
-search_wish (suc (suc zero)) = Some (codes "k")
-search_wish j = Some (codes "k" ++ decimal j)
+-- what the variable of the j-th search is named after: i, j, k, k3 and so on
+abbrev pub search_letter : ℕ → List ℕ
+search_letter j = if nat_eq j 0 then codes "i" else if nat_eq j 1 then codes "j" else codes "k"
 
--- the loops of searches below these bounds: the draft in them, what is known in them, and how deep they are
-pub record Loops : Type 0 where
-  pub draft : Draft
-  pub sight : Sight
-  pub depth : ℕ
+abbrev pub search_name : ℕ → List ℕ
+search_name j = search_letter j ++ (if nat_lt 2 j then decimal j else [])
 
 -- one loop more, for the j-th search
 unfoldable pub with_loop : Setting → ℕ → ℕ → Loops → Loops
 with_loop s j k l =
-    let name = new_name (words s) l.draft.taken Int (search_wish j) in
+    let name = name_in s l.draft.taken Int (Some (search_name j)) in
     record {
       draft = taking name (put (line s.language l.depth (search_text s.language name k)) l.draft);
-      sight = behind_one l.sight (variable (table s) Int (between (pos 0) (pos (pred k))) name);
+      scope = behind_one l.scope (variable (table s) Int (between (pos 0) (pos (k - 1))) name);
       depth = suc l.depth;
     }
 
+-- the loops of searches below these bounds
 abbrev pub loops_of : Setting → ℕ → List ℕ → Loops → Loops
 loops_of s j [] l = l
 loops_of s j (k ∷ ks) l = loops_of s (suc j) ks (with_loop s j k l)
@@ -277,8 +292,8 @@ loop_ends l depth (suc n) = end_lines l (depth + n) ++ loop_ends l depth n
 
 unfoldable pub searched_arm : Setting → Place → Sight → List ℕ → Option ℕ → (Sight → Place → Draft → Draft) → (Place → Draft → Draft) → Draft → Draft
 searched_arm s p w ks last body later d =
-    let l = loops_of s 0 ks (record { draft = put (arm_lines s.language p last) d; sight = w; depth = p.depth }) in
-    let ended = body l.sight (record { depth = l.depth; exit = GoesOn; arms = 0; giving = p.giving }) l.draft in
+    let l = loops_of s 0 ks (record { draft = put (arm_lines s.language p last) d; scope = w; depth = p.depth }) in
+    let ended = body l.scope (record { depth = l.depth; exit = GoesOn; arms = 0; giving = p.giving }) l.draft in
     later (behind_arm p) (put (loop_ends s.language p.depth (length ks)) (freed (length d.taken) ended))
 
 -- ---- blocks
@@ -292,11 +307,11 @@ abbrev mutual
   -- what stands behind a block that never gives is not reached
   block s w (bind a b) p d =
       if gives a
-      then (let h = bound_for s p (length w.names) b (in_place s p w a (held s w a) (block s w a) d) in block s (behind w h.values) b p h.draft)
+      then (let i = inner_behind s p w b (in_place s p w a (held s w a) (block s w a) d) in block s i.scope b p i.draft)
       else block s w a p d
   block s w (part a b) p d =
       if gives a
-      then (let h = bound_for s p 0 b (in_place s p w a (held s w a) (block s w a) d) in block s (ahead (first_at_hand h.values) w) b p h.draft)
+      then (let i = inner_ahead s p w b (in_place s p w a (held s w a) (block s w a) d) in block s i.scope b p i.draft)
       else block s w a p d
   block s w (join a b) p d =
       if gives a
@@ -308,8 +323,7 @@ abbrev mutual
       else block s w a p d
   block s w (test t a b) p d =
       if gives t
-      then (let h = in_place s p w t (held s w t) (block s w t) d in
-      tested s p a b (first_at_hand h.values) (block s w a) (block s w b) h.draft)
+      then tested s p a b (in_place s p w t (held s w t) (block s w t) d) (block s w a) (block s w b)
       else block s w t p d
   block s w (arm ks a b) p d =
       let q = giving s (number_of b) p in
@@ -321,15 +335,13 @@ abbrev mutual
   pub held : Setting → Sight → Block → Place → Draft → Held
   held s w (give c) p d = record { values = given (table s) w c; draft = d }
   held s w (bind a b) p d =
-      let h = bound_for s p (length w.names) b (in_place s p w a (held s w a) (block s w a) d) in held s (behind w h.values) b p h.draft
+      let i = inner_behind s p w b (in_place s p w a (held s w a) (block s w a) d) in held s i.scope b p i.draft
   held s w (part a b) p d =
-      let h = bound_for s p 0 b (in_place s p w a (held s w a) (block s w a) d) in held s (ahead (first_at_hand h.values) w) b p h.draft
+      let i = inner_ahead s p w b (in_place s p w a (held s w a) (block s w a) d) in held s i.scope b p i.draft
   held s w (join a b) p d =
       let h = kept s p.depth (is_plain b) (in_place s p w a (held s w a) (block s w a) d) in
       joined_held h (in_place s p w b (held s w b) (block s w b) h.draft)
-  held s w (test t a b) p d =
-      let h = in_place s p w t (held s w t) (block s w t) d in
-      guarded s p a b (first_at_hand h.values) (held s w a) (held s w b) h.draft
+  held s w (test t a b) p d = guarded s p a b (in_place s p w t (held s w t) (block s w t) d) (held s w a) (held s w b)
   held s w (arm ks a b) p d = held s w a (leaving_by (Ends (number_of b)) (giving s (number_of b) p)) d
   held s w (none n) p d = no_values d
   held s w leave p d = no_values d

@@ -1,11 +1,12 @@
 //! What is written so far.
-ghost use Rattle.std.specs.Prelude.{◌≡◌, ◌++◌, IfOk};
-ghost use Rattle.cf_print_line.specs.Layout.{let_lines, line, read_lines};
+ghost use Rattle.std.specs.Prelude.{◌≡◌, IfOk};
+ghost use Rattle.cf_print_line.specs.Layout.{let_lines, read_lines};
 ghost use Rattle.cf_print_block.specs.Places.{freed as freed_to, put, taking};
 
+use crate::values::AtHand;
 use cf_print::Language;
 use cf_print_line::layout;
-use cf_tree::{Base, NoMemory, Text};
+use cf_tree::{NoMemory, Text};
 use std::alloc::Global;
 use std::marker::Model;
 
@@ -63,20 +64,19 @@ pub(crate) fn put_let(
     language: Language,
     depth: usize,
     is_read: bool,
-    base: Base,
     name: &Text,
-    value: &Text,
+    value: &AtHand,
 ) -> Result<Draft, NoMemory>
-    ensures { IfOk result (λ d. d ≡ put (let_lines language depth is_read base name.now value.now) draft) }
+    ensures { IfOk result (λ d. d ≡ put (let_lines language depth is_read value.now.base name.now value.now.text) draft) }
 {
     let mut draft = draft;
     layout::put_let(
         &mut draft.lines,
         language,
         depth,
-        base,
+        value.base,
         &name.bytes,
-        &value.bytes,
+        &value.text.bytes,
     )?;
     layout::put_read(&mut draft.lines, language, depth, is_read, &name.bytes)?;
     Ok(draft)

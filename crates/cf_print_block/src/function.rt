@@ -1,12 +1,8 @@
 //! Functions for parts of a program.
-ghost use Rattle.std.specs.Prelude.{◌≡◌, ◌++◌, ◌∷◌, [], drop, codes, Some, IfOk, OnOk};
-ghost use Rattle.cf_tree.specs.declared.base.Base.TheVariants.{Int};
+ghost use Rattle.std.specs.Prelude.{◌≡◌, ◌++◌, IfOk};
 ghost use Rattle.cf_stmt.specs.BlockView.{block_tree};
-ghost use Rattle.cf_range.specs.Ranges.{whole};
 ghost use Rattle.cf_print_line.specs.Heads.{part_closing as closing};
 ghost use Rattle.cf_print_line.specs.Layout.{call_lines};
-ghost use Rattle.cf_print.specs.Names.{new_name};
-ghost use Rattle.cf_print_block.specs.Places.{table, words};
 ghost use Rattle.cf_print_block.specs.PrinterView.{setting_in};
 ghost use Rattle.cf_print_block.specs.Statements.{begun as draft_begun, function_of as function_for, inside as place_inside, results_held as results_at_hand, variables as variables_named};
 
@@ -15,7 +11,7 @@ use crate::naming::{Role, function_name, names_for, pointers_for};
 use crate::place::{Place, giving_of};
 use crate::printer::{Printer, outputs_of, outputs_of_choose};
 use crate::values::{AtHand, variable};
-use crate::variables::{Held, named};
+use crate::variables::{Held, named_after};
 use cf_print::copies;
 use cf_print_line::{FileCall, all_parameters, part_closing, part_opening, put_call};
 use cf_print_shape::{Exit, bases_read, names_read, number_of, results_of};
@@ -179,26 +175,33 @@ pub(crate) struct Outer {
     pub taken: Vec<Text>,
 }
 
-// The lines of a function with a call.
+// Lines with a call of a function, whose results get these names.
 #[tactic(auto, unfolding(crate::specs::PrinterView::setting_in))]
-fn with_call(
+fn with_call<'x>(
     printer: &Printer<'_>,
     depth: usize,
-    call: &FileCall<'_>,
-    params: &[Text],
+    function: &'x Function,
+    status: &'x Text,
+    names: &'x [Text],
     lines: Vec<u8>,
 ) -> Result<Vec<u8>, NoMemory>
     ensures { IfOk result (λ all. all.items ≡ lines.items ++ call_lines (setting_in printer.now).language depth
-        call.now.status.now call.now.bases.now call.now.names.now call.now.function.now params.now) }
+        status.now function.now.results names.now function.now.name function.now.params) }
 {
     let mut lines = lines;
-    let args = copies(printer.alloc, params)?;
+    let args = copies(printer.alloc, &function.params)?;
+    let call = FileCall {
+        status: &status.bytes,
+        bases: &function.results,
+        names,
+        function: &function.name.bytes,
+    };
     put_call(
         printer.alloc,
         &mut lines,
         printer.language,
         depth,
-        call,
+        &call,
         args,
     )?;
     Ok(lines)
@@ -236,14 +239,8 @@ pub(crate) fn results_held(
     let asked = outputs_of(printer, giving_of(function.number));
     let names = names_for(printer, Role::Value, asked, &function.results, &taken)?;
     let mut taken = with_copies(alloc, taken, &names)?;
-    let status = status_name(printer, &taken)?;
-    let call = FileCall {
-        status: status.bytes.as_slice(),
-        bases: function.results.as_slice(),
-        names: names.as_slice(),
-        function: function.name.bytes.as_slice(),
-    };
-    let lines = with_call(printer, depth, &call, &function.params, lines)?;
+    let status = named_after(printer, &taken, Base::Int, b"status")?;
+    let lines = with_call(printer, depth, function, &status, &names, lines)?;
     let values = variables(printer, &names, &function.results)?;
     taken.push(status)?;
     let functions = closed(printer, done.functions, &done.lines)?;
@@ -257,14 +254,4 @@ pub(crate) fn results_held(
             numbers: done.numbers,
         },
     })
-}
-
-// The name of the status of a call.
-fn status_name(printer: &Printer<'_>, taken: &[Text]) -> Result<Text, NoMemory>
-    ensures { IfOk result (λ name. name ≡ new_name (words (setting_in printer.now)) taken.now Int (Some (codes "status"))) }
-{
-    let wish = Some(Text {
-        bytes: Vec::from_slice(printer.alloc, b"status")?,
-    });
-    named(printer, taken, Base::Int, &wish)
 }

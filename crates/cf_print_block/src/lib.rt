@@ -3,6 +3,7 @@
 
 mod draft;
 mod function;
+mod inner;
 mod lines;
 mod naming;
 mod place;

@@ -1,5 +1,5 @@
 //! Lines of a place, behind a draft.
-ghost use Rattle.std.specs.Prelude.{◌≡◌, ◌++◌, codes, decimal, suc, IfOk, OnOk, Option};
+ghost use Rattle.std.specs.Prelude.{◌≡◌, ◌++◌, IfOk, OnOk};
 ghost use Rattle.cf_print_line.specs.Layout.{else_lines, end_lines, if_text, line, scope_lines};
 ghost use Rattle.cf_print_block.specs.Places.{put};
 ghost use Rattle.cf_print_block.specs.PrinterView.{setting_in};
@@ -210,7 +210,8 @@ fn put_ends(
     ensures { OnOk result (out.new.items ≡ out.old.items ++ loop_ends language depth count) }
 {
     for i in 0..count {
-        layout::put_end(out, language, sum_of(depth, count - 1 - i)?)?;
+        let inner = sum_of(depth, count - 1 - i)?;
+        layout::put_end(out, language, inner)?;
     }
     Ok(())
 }

@@ -1,5 +1,6 @@
 //! The names of functions, of results and of pointers to them.
-ghost use Rattle.std.specs.Prelude.{◌≡◌, ◌+◌, drop, suc, if◌then◌else◌, IfOk};
+ghost use Rattle.std.specs.Prelude.{◌≡◌, suc, if◌then◌else◌, IfOk};
+ghost use Rattle.cf_print_block.specs.Places.{name_in};
 ghost use Rattle.cf_print_block.specs.PrinterView.{setting_in};
 ghost use Rattle.cf_print_block.specs.Statements.{first_name as first_name_of, function_name as function_named, has_pointers as has_pointers_in, names_for as names_wished, numbered_name as nth_name_of, pointer_wish as wish_of_pointer, pointers_for as pointers_wished, role_wish as wish_of_role, times_in as times_among};
 
@@ -97,6 +98,21 @@ fn role_wish(alloc: Global, role: Role, asked: &[Text], k: usize) -> Result<Opti
     }
 }
 
+// A name for the k-th of some variables.
+fn name_for(
+    printer: &Printer<'_>,
+    role: Role,
+    asked: &[Text],
+    k: usize,
+    base: Base,
+    taken: &[Text],
+) -> Result<Text, NoMemory>
+    ensures { IfOk result (λ name. name ≡ name_in (setting_in printer.now) taken.now base (wish_of_role role asked.now k)) }
+{
+    let wish = role_wish(printer.alloc, role, asked, k)?;
+    named(printer, taken, base, &wish)
+}
+
 /// Names for variables of these bases, behind those that are taken.
 pub fn names_for(
     printer: &Printer<'_>,
@@ -109,11 +125,12 @@ pub fn names_for(
 {
     let mut names = Vec::new(printer.alloc);
     let mut all = copies(printer.alloc, taken)?;
-    for k in 0..bases.len() {
-        let wish = role_wish(printer.alloc, role, asked, k)?;
-        let name = named(printer, &all, bases[k], &wish)?;
+    let mut k: usize = 0;
+    for base in bases {
+        let name = name_for(printer, role, asked, k, *base, &all)?;
         all.push(name.try_copy(printer.alloc)?)?;
         names.push(name)?;
+        k = next(k)?;
     }
     Ok(names)
 }

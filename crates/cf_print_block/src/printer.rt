@@ -1,5 +1,5 @@
 //! What is printed, and the names that it wishes for.
-ghost use Rattle.std.specs.Prelude.{◌≡◌, drop};
+ghost use Rattle.std.specs.Prelude.{◌≡◌};
 ghost use Rattle.cf_print_block.specs.PrinterView.{outputs_in};
 ghost use Rattle.cf_print_block.specs.Places.{giving as giving_at, outputs_at, table, words as reserved};
 ghost use Rattle.cf_print_block.specs.PrinterView.{setting_in};
@@ -25,6 +25,14 @@ pub struct Printer<'a> {
     pub language: Language,
     pub results: &'a [Text],
     pub outputs: &'a [Outputs],
+}
+
+/// The language.
+#[tactic(auto, unfolding(crate::specs::PrinterView::setting_in))]
+pub(crate) fn language_in(printer: &Printer<'_>) -> Language
+    ensures { result ≡ (setting_in printer.now).language }
+{
+    printer.language
 }
 
 /// The expressions of the language.

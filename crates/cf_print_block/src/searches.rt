@@ -1,22 +1,22 @@
 //! Loops of searches.
-ghost use Rattle.std.specs.Prelude.{◌≡◌, suc, drop, IfOk, OnOk, pred, pos};
+ghost use Rattle.std.specs.Prelude.{◌≡◌, ◌-◌, Some, IfOk, pos};
+ghost use Rattle.cf_tree.specs.declared.base.Base.TheVariants.{Int};
 ghost use Rattle.cf_range.specs.Ranges.{between};
 ghost use Rattle.cf_print_line.specs.Layout.{line, search_text};
-ghost use Rattle.cf_print_block.specs.Places.{put, table, words};
+ghost use Rattle.cf_print_block.specs.Places.{name_in, put};
 ghost use Rattle.cf_print_block.specs.PrinterView.{setting_in};
-ghost use Rattle.cf_print_block.specs.Statements.{loops_of as loops_for, search_wish as wish_of_search, with_loop as one_loop_more};
+ghost use Rattle.cf_print_block.specs.Statements.{loops_of as loops_for, search_letter as letter_of_search, search_name as name_of_search, with_loop as one_loop_more};
 
 use crate::draft::Draft;
 use crate::printer::Printer;
 use crate::values::{variable, with_one_behind};
-use crate::variables::named;
+use crate::variables::named_after;
 use cf_print::{Language, next};
 use cf_print_line::layout;
 use cf_print_term::Scope;
 use cf_range::Range;
 use cf_tree::{Base, NoMemory, Text, put_number};
 use std::alloc::Global;
-use std::marker::Model;
 
 /// The draft in some loops, what is known in them, and how deep they are.
 #[derive(Drop)]
@@ -26,34 +26,40 @@ pub(crate) struct Loops {
     pub depth: usize,
 }
 
-impl Model for Loops {
-    ghost use Rattle.cf_print_block.specs.Statements.{Loops as Opened};
-
-    ghost Value = { Opened };
-
-    ghost view = { λ l. record { draft = l.draft; sight = l.scope; depth = l.depth } };
+// What the variable of the j-th search is named after.
+fn search_letter(j: usize) -> &'static [u8]
+    ensures { result.now ≡ letter_of_search j }
+{
+    if j == 0 {
+        b"i"
+    } else if j == 1 {
+        b"j"
+    } else {
+        b"k"
+    }
 }
 
-// The name that the variable of the j-th search wishes for.
-fn search_wish(alloc: Global, j: usize) -> Result<Option<Text>, NoMemory>
-    ensures { IfOk result (λ wish. wish ≡ wish_of_search j) }
+fn search_name(alloc: Global, j: usize) -> Result<Text, NoMemory>
+    ensures { IfOk result (λ name. name ≡ name_of_search j) }
 {
-    let mut bytes = Vec::new(alloc);
-    match j {
-        0 => bytes.push(b'i')?,
-        1 => bytes.push(b'j')?,
-        2 => bytes.push(b'k')?,
-        _ => {
-            bytes.push(b'k')?;
-            put_number(&mut bytes, j)?;
-        }
+    let mut bytes = Vec::from_slice(alloc, search_letter(j))?;
+    if 2 < j {
+        put_number(&mut bytes, j)?;
     }
-    Ok(Some(Text { bytes }))
+    Ok(Text { bytes })
+}
+
+// The name of the variable of the j-th search.
+fn search_variable(printer: &Printer<'_>, taken: &[Text], j: usize) -> Result<Text, NoMemory>
+    ensures { IfOk result (λ name. name ≡ name_in (setting_in printer.now) taken.now Int (Some (name_of_search j))) }
+{
+    let wish = search_name(printer.alloc, j)?;
+    named_after(printer, taken, Base::Int, &wish.bytes)
 }
 
 // The numbers from 0 to below a bound.
 fn below(bound: u32) -> Range
-    ensures { result ≡ between (pos 0) (pos (pred bound)) }
+    ensures { result ≡ between (pos 0) (pos (bound - 1)) }
 {
     Range {
         low: 0,
@@ -86,8 +92,7 @@ fn with_loop(printer: &Printer<'_>, j: usize, bound: u32, loops: Loops) -> Resul
         scope,
         depth,
     } = loops;
-    let wish = search_wish(printer.alloc, j)?;
-    let name = named(printer, &draft.taken, Base::Int, &wish)?;
+    let name = search_variable(printer, &draft.taken, j)?;
     let written = put_search(draft, printer.language, depth, &name, bound)?;
     let draft = written.taking(printer.alloc, &name)?;
     let value = variable(printer, Base::Int, below(bound), &name)?;
@@ -108,8 +113,10 @@ pub(crate) fn loops_of(
     ensures { IfOk result (λ l. l ≡ loops_for (setting_in printer.now) 0 bounds.now outside) }
 {
     let mut loops = outside;
-    for j in 0..bounds.len() {
-        loops = with_loop(printer, j, bounds[j], loops)?;
+    let mut j: usize = 0;
+    for bound in bounds {
+        loops = with_loop(printer, j, *bound, loops)?;
+        j = next(j)?;
     }
     Ok(loops)
 }

@@ -4,25 +4,26 @@ ghost use Rattle.cf_tree.specs.CodeView.{code_tree};
 ghost use Rattle.cf_stmt.specs.BlockView.{block_tree};
 ghost use Rattle.cf_print_block.specs.Places.{given as values_given, table};
 ghost use Rattle.cf_print_block.specs.PrinterView.{setting_in};
-ghost use Rattle.cf_print_block.specs.StatementParts.{both_in, branched_in, guarded_in, plain_arm_in, searched_arm_in, tested_in};
-ghost use Rattle.cf_print_block.specs.Statements.{block as block_draft, called as values_called, exit_lines, held as values_held, in_place as values_in_place};
+ghost use Rattle.cf_print_block.specs.StatementParts.{both_in, branched_in, guarded_in, plain_arm_in, searched_arm_in, second_behind, tested_in};
+ghost use Rattle.cf_print_block.specs.Statements.{block as block_draft, called as values_called, exit_lines, first_side as behind_first, held as values_held, in_place as values_in_place, second_side as behind_second};
 
 use crate::draft::Draft;
 use crate::function::{Outer, begun, function_of, inside, results_held};
+use crate::inner::{bound_ahead, bound_behind};
 use crate::lines::{
     give_back, put_arm, put_else, put_end, put_exit, put_guard, put_if, put_loop_ends, put_scope,
 };
 use crate::place::{Place, arm_place, behind_arm, deeper, leaving_by};
-use crate::printer::{Printer, giving};
+use crate::printer::{Printer, giving, language_in};
 use crate::searches::{Loops, loops_of};
-use crate::values::{AtHand, ahead, behind, first_of, given};
-use crate::variables::{Held, bound_for, joined, kept, never_read, no_values};
+use crate::values::{AtHand, first_of, given};
+use crate::variables::{Held, joined, kept, never_read, no_values};
 use cf_print_shape::{
     Exit, can_fall, exit_of, gives, is_leave, is_none, is_plain, is_straight, number_of,
 };
 use cf_print_term::Scope;
 use cf_stmt::Block;
-use cf_tree::{Code, NoMemory, to_u32};
+use cf_tree::{Code, NoMemory};
 
 // The values of a code, and the draft as it is.
 fn held_of(
@@ -60,20 +61,16 @@ pub fn put_block(
                 return put_block(printer, scope, a, place, draft);
             }
             let first = in_place(printer, &scope, a, place, draft)?;
-            let level = to_u32(scope.names.len())?;
-            let Held { values, draft } = bound_for(printer, place, level, b, first)?;
-            let inner = behind(printer.alloc, scope, &values)?;
-            put_block(printer, inner, b, place, draft)
+            let inner = bound_behind(printer, place, scope, b, first)?;
+            put_block(printer, inner.scope, b, place, inner.draft)
         }
         Block::Part(a, b) => {
             if !gives(a) {
                 return put_block(printer, scope, a, place, draft);
             }
             let first = in_place(printer, &scope, a, place, draft)?;
-            let Held { values, draft } = bound_for(printer, place, 0, b, first)?;
-            let value = first_of(printer.alloc, values);
-            let inner = ahead(printer.alloc, &value, scope)?;
-            put_block(printer, inner, b, place, draft)
+            let inner = bound_ahead(printer, place, scope, b, first)?;
+            put_block(printer, inner.scope, b, place, inner.draft)
         }
         Block::Join(_, _) => put_joined(printer, scope, block, place, draft),
         Block::Test { test, .. } => {
@@ -115,7 +112,7 @@ fn put_joined(
                 let behind = never_read(printer, place.depth, first)?;
                 return put_block(printer, scope, b, place, behind);
             }
-            let held = both(printer, &scope, block, place, draft)?;
+            let held = both_held(printer, &scope, block, place, draft)?;
             give_back(printer, place, held)
         }
         // for the proof: no other form comes here
@@ -125,7 +122,7 @@ fn put_joined(
 
 // The values of two blocks that are joined.
 #[cycle(block)]
-fn both(
+fn both_held(
     printer: &Printer<'_>,
     scope: &Scope,
     block: &Block,
@@ -137,13 +134,28 @@ fn both(
     match block {
         Block::Join(a, b) => {
             let first = in_place(printer, scope, a, place, draft)?;
-            let Held { values, draft } = kept(printer, place.depth, is_plain(b), first)?;
-            let second = in_place(printer, scope, b, place, draft)?;
-            joined(values, second)
+            let before = kept(printer, place.depth, is_plain(b), first)?;
+            with_second(printer, scope, b, place, before)
         }
         // for the proof: no other form comes here
         _ => Err(NoMemory),
     }
+}
+
+// The values of a block behind others.
+#[cycle(block)]
+fn with_second(
+    printer: &Printer<'_>,
+    scope: &Scope,
+    block: &Block,
+    place: Place,
+    before: Held,
+) -> Result<Held, NoMemory>
+    ensures { IfOk result (λ h. h ≡ second_behind (setting_in printer.now) scope.now (block_tree block.now) place before) }
+{
+    let Held { values, draft } = before;
+    let second = in_place(printer, scope, block, place, draft)?;
+    joined(values, second)
 }
 
 // A test whose condition is at hand: a side that only leaves is a guard.
@@ -161,7 +173,7 @@ fn put_tested(
     match block {
         Block::Test { yes, no, .. } => {
             let Held { values, draft } = condition;
-            let value = first_of(printer.alloc, values);
+            let value = first_of(printer.alloc, &values)?;
             match exit_of(place.exit, no) {
                 Some(exit) => {
                     let behind = put_guard(printer, place, &value.denied, exit, draft)?;
@@ -197,10 +209,7 @@ fn put_branches(
     match block {
         Block::Test { yes, no, .. } => {
             let count = draft.taken.len();
-            let asked = put_if(printer, place, &condition.text, draft)?;
-            let copy = scope.try_copy(printer.alloc)?;
-            let ended = put_block(printer, copy, yes, deeper(place)?, asked)?;
-            let behind = ended.freed(count);
+            let behind = first_side(printer, &scope, yes, place, &condition, draft)?;
             if is_leave(no) {
                 return put_end(printer, place, behind);
             }
@@ -208,13 +217,52 @@ fn put_branches(
                 let behind = put_end(printer, place, behind)?;
                 return put_block(printer, scope, no, place, behind);
             }
-            let other = put_else(printer, place, behind)?;
-            let ended = put_block(printer, scope, no, deeper(place)?, other)?;
-            put_end(printer, place, ended.freed(count))
+            let ended = second_side(printer, scope, no, place, count, behind)?;
+            put_end(printer, place, ended)
         }
         // for the proof: no other form comes here
         _ => Err(NoMemory),
     }
+}
+
+// The first side of a test, whose names are free again behind it.
+#[cycle(block)]
+#[tactic(auto, unfolding(crate::specs::Statements::first_side))]
+fn first_side(
+    printer: &Printer<'_>,
+    scope: &Scope,
+    block: &Block,
+    place: Place,
+    condition: &AtHand,
+    draft: Draft,
+) -> Result<Draft, NoMemory>
+    ensures { IfOk result (λ d. d ≡ behind_first (setting_in printer.now) place condition.now
+        (block_draft (setting_in printer.now) scope.now (block_tree block.now)) draft) }
+{
+    let count = draft.taken.len();
+    let asked = put_if(printer, place, &condition.text, draft)?;
+    let copy = scope.try_copy(printer.alloc)?;
+    let ended = put_block(printer, copy, block, deeper(place)?, asked)?;
+    Ok(ended.freed(count))
+}
+
+// The second side, behind which only so many names are taken.
+#[cycle(block)]
+#[tactic(auto, unfolding(crate::specs::Statements::second_side))]
+fn second_side(
+    printer: &Printer<'_>,
+    scope: Scope,
+    block: &Block,
+    place: Place,
+    count: usize,
+    draft: Draft,
+) -> Result<Draft, NoMemory>
+    ensures { IfOk result (λ d. d ≡ behind_second (setting_in printer.now) place count
+        (block_draft (setting_in printer.now) scope (block_tree block.now)) draft) }
+{
+    let other = put_else(printer, place, draft)?;
+    let ended = put_block(printer, scope, block, deeper(place)?, other)?;
+    Ok(ended.freed(count))
 }
 
 // An arm without searches: the last one has guards.
@@ -250,7 +298,7 @@ fn plain_arm(
                     printer,
                     copy,
                     body,
-                    arm_place(printer.language, place)?,
+                    arm_place(language_in(printer), place)?,
                     scoped,
                 )?;
                 let behind = put_end(printer, place, ended.freed(count))?;
@@ -287,18 +335,14 @@ fn searched_arm(
                 scope: scope.try_copy(printer.alloc)?,
                 depth: place.depth,
             };
-            let Loops {
-                draft,
-                scope: inner,
-                depth,
-            } = loops_of(printer, bounds, outside)?;
+            let inside = loops_of(printer, bounds, outside)?;
             let at = Place {
-                depth,
+                depth: inside.depth,
                 exit: Exit::GoesOn,
                 arms: 0,
                 giving: place.giving,
             };
-            let ended = put_block(printer, inner, body, at, draft)?;
+            let ended = put_block(printer, inside.scope, body, at, inside.draft)?;
             let behind = put_loop_ends(printer, place, bounds.len(), ended.freed(count))?;
             put_block(printer, scope, later, behind_arm(place)?, behind)
         }
@@ -391,19 +435,15 @@ fn held_inside(
         Block::Stop(_) | Block::Leave => Ok(no_values(printer.alloc, draft)),
         Block::Bind(a, b) => {
             let first = in_place(printer, &scope, a, place, draft)?;
-            let level = to_u32(scope.names.len())?;
-            let Held { values, draft } = bound_for(printer, place, level, b, first)?;
-            let inner = behind(printer.alloc, scope, &values)?;
-            held_inside(printer, inner, b, place, draft)
+            let inner = bound_behind(printer, place, scope, b, first)?;
+            held_inside(printer, inner.scope, b, place, inner.draft)
         }
         Block::Part(a, b) => {
             let first = in_place(printer, &scope, a, place, draft)?;
-            let Held { values, draft } = bound_for(printer, place, 0, b, first)?;
-            let value = first_of(printer.alloc, values);
-            let inner = ahead(printer.alloc, &value, scope)?;
-            held_inside(printer, inner, b, place, draft)
+            let inner = bound_ahead(printer, place, scope, b, first)?;
+            held_inside(printer, inner.scope, b, place, inner.draft)
         }
-        Block::Join(_, _) => both(printer, &scope, block, place, draft),
+        Block::Join(_, _) => both_held(printer, &scope, block, place, draft),
         Block::Test { test, .. } => {
             let condition = in_place(printer, &scope, test, place, draft)?;
             guarded(printer, scope, block, place, condition)
@@ -431,7 +471,7 @@ fn guarded(
     match block {
         Block::Test { yes, no, .. } => {
             let Held { values, draft } = condition;
-            let value = first_of(printer.alloc, values);
+            let value = first_of(printer.alloc, &values)?;
             match exit_of(place.exit, no) {
                 Some(exit) => {
                     let behind = put_guard(printer, place, &value.denied, exit, draft)?;

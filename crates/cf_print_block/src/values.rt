@@ -1,9 +1,8 @@
 //! Values at hand.
-ghost use Rattle.std.specs.Prelude.{◌≡◌, ◌+◌, ◌++◌, ◌∷◌, [], Option, Some, None, map, option_map, IfOk, OnOk};
+ghost use Rattle.std.specs.Prelude.{◌≡◌, ◌∷◌, [], slice_get, IfOk};
 ghost use Rattle.cf_tree.specs.CodeView.{code_tree, code_trees};
-ghost use Rattle.cf_stmt.specs.BlockView.{block_tree};
 ghost use Rattle.cf_print_term.specs.Expressions.{term_of as term_at};
-ghost use Rattle.cf_print_block.specs.Places.{ahead as one_ahead, all_at_hand as those_at_hand, at_hand as value_at_hand, behind as those_behind, behind_one, denied_text, first_at_hand, given as given_by, is_variable as names_variable, nth_wish as wish_for, not_text as text_of_not, table, variable as variable_of, wish_at as wish_for_place};
+ghost use Rattle.cf_print_block.specs.Places.{ahead as one_ahead, all_at_hand as those_at_hand, at_hand as value_at_hand, behind as those_behind, behind_one, denied_text, first_at_hand, given as given_by, is_variable as names_variable, not_text as text_of_not, table, variable as variable_of, wish_at as wish_for_place};
 ghost use Rattle.cf_print_block.specs.PrinterView.{setting_in};
 ghost use Rattle.cf_print_block.specs.Statements.{names_of};
 ghost use Rattle.cf_print_term.specs.Terms.{text};
@@ -23,6 +22,13 @@ pub(crate) struct AtHand {
     pub is_variable: bool,
     pub base: Base,
     pub range: Range,
+}
+
+/// The name that a value wishes for, and whether statements read it.
+#[derive(Drop)]
+pub(crate) struct Wish {
+    pub name: Option<Text>,
+    pub is_read: bool,
 }
 
 // The text of a term.
@@ -191,21 +197,26 @@ impl AtHand {
     }
 }
 
-/// The first of some values.
-pub(crate) fn first_of(alloc: Global, values: Vec<AtHand>) -> AtHand
-    ensures { result ≡ first_at_hand values.items }
+// What stands for the first of no values.
+fn no_value(alloc: Global) -> AtHand
+    ensures { result ≡ first_at_hand [] }
 {
-    let mut values = values;
-    values.truncate(1);
-    match values.pop() {
-        Some(value) => value,
-        None => AtHand {
-            text: no_text(alloc),
-            denied: no_text(alloc),
-            is_variable: false,
-            base: Base::Int,
-            range: Range::whole(),
-        },
+    AtHand {
+        text: no_text(alloc),
+        denied: no_text(alloc),
+        is_variable: false,
+        base: Base::Int,
+        range: Range::whole(),
+    }
+}
+
+/// The first of some values.
+pub(crate) fn first_of(alloc: Global, values: &[AtHand]) -> Result<AtHand, NoMemory>
+    ensures { IfOk result (λ v. v ≡ first_at_hand values.now) }
+{
+    match values.split_first() {
+        Some((value, _)) => value.try_copy(alloc),
+        None => Ok(no_value(alloc)),
     }
 }
 
@@ -261,12 +272,11 @@ pub(crate) fn ahead(alloc: Global, value: &AtHand, scope: Scope) -> Result<Scope
 
 /// The k-th of some names, where there are so many.
 pub(crate) fn nth_wish(alloc: Global, names: &[Text], k: usize) -> Result<Option<Text>, NoMemory>
-    ensures { IfOk result (λ w. w ≡ wish_for names.now k) }
+    ensures { IfOk result (λ w. w ≡ slice_get names.now k) }
 {
-    if k < names.len() {
-        Ok(Some(names[k].try_copy(alloc)?))
-    } else {
-        Ok(None)
+    match names.get(k) {
+        Some(name) => Ok(Some(name.try_copy(alloc)?)),
+        None => Ok(None),
     }
 }
 

@@ -7,7 +7,9 @@ use Rattle.cf_tree.specs.declared.base.Base.TheVariants.{Int, Bool as Truth, Set
 use Rattle.cf_stmt.specs.Blocks.{Block}
 use Rattle.cf_print_shape.specs.Sets.{block_uses_sets, is_set}
 use Rattle.cf_print_shape.specs.Shapes.{block_reads, gives, leaves_at_ends}
-use Rattle.cf_print_block.specs.Places.{Setting}
+use Rattle.cf_print_term.specs.Expressions.{Sight}
+use Rattle.cf_print_block.specs.declared.place.Place.{Place}
+use Rattle.cf_print_block.specs.Places.{Setting, Draft}
 use Rattle.cf_print_block.specs.Statements.{block, names_for, pointers_for}
 use Rattle.cf_print_line.specs.Called.{Called, end_of}
 use Rattle.cf_print_program.specs.Files.{opening_of, file_of}
@@ -40,7 +42,7 @@ pub record Names : Type 0 where
 abbrev pub fitting : List Base → List (List ℕ) → List (List ℕ)
 fitting bs names = if nat_eq (length bs) (length names) then names else []
 
-abbrev pub setting_of : Names → Printing → Setting
+unfoldable pub setting_of : Names → Printing → Setting
 setting_of names p = record { language = p.language; results = fitting p.results names.results; outputs = names.outputs }
 
 -- truth values that are not read; each number is checked, and so is named
@@ -57,7 +59,7 @@ abbrev pub unread_in : Block → List (List ℕ) → List Base → List (List �
 unread_in b params bases pointers = unread_truths 0 b params bases ++ (if gives b then [] else pointers)
 
 -- the function that is called
-abbrev pub called_of : Names → Printing → Called
+unfoldable pub called_of : Names → Printing → Called
 called_of names p =
     let s = setting_of names p in
     let params = names_for s Value names.params 0 p.params [] in
@@ -73,13 +75,24 @@ called_of names p =
       nones = nones_of p.body [];
     }
 
+-- before the first statement of that function: what is known, where it stands, and what is written
+abbrev pub first_sight : Called → Sight
+first_sight f = record { names = f.params; bases = f.bases; ranges = map (λ b. whole) f.bases }
+
+abbrev pub first_place : Place
+first_place = record { depth = 1; exit = Falls; arms = 0; giving = Results }
+
+unfoldable pub first_draft : Setting → Bool → Called → Draft
+first_draft s has_main f =
+    record { lines = opening_of s.language has_main f; pointers = f.pointers; taken = f.params ++ f.pointers; functions = []; numbers = [] }
+
+-- the functions of a draft that is done, of which the last is its own
+abbrev pub all_functions : Setting → Draft → List ℕ
+all_functions s d = (d.functions ++ d.lines) ++ end_of s.language
+
 -- the functions of a program, of which the last is the one that is called
-abbrev pub functions_of : Setting → Bool → Called → Block → List ℕ
-functions_of s has_main f body =
-    let d = block s (record { names = f.params; bases = f.bases; ranges = map (λ b. whole) f.bases }) body
-    (record { depth = 1; exit = Falls; arms = 0; giving = Results })
-    (record { lines = opening_of s.language has_main f; pointers = f.pointers; taken = f.params ++ f.pointers; functions = []; numbers = [] }) in
-    (d.functions ++ d.lines) ++ end_of s.language
+unfoldable pub functions_of : Setting → Bool → Called → Block → List ℕ
+functions_of s has_main f body = all_functions s (block s (first_sight f) body first_place (first_draft s has_main f))
 
 abbrev pub printed : Names → Printing → List ℕ
 printed names p =

@@ -1,13 +1,11 @@
 //! Printed programs.
-ghost use Rattle.std.specs.Prelude.{◌≡◌, ◌++◌, [], map, nat_lt, true, false, IfOk, IfErr};
+ghost use Rattle.std.specs.Prelude.{◌≡◌, [], map, nat_lt, true, false, IfOk, IsErrOf};
 ghost use Rattle.std.specs.List.{list_all};
-ghost use Rattle.cf_print_line.specs.Called.{end_of as end_of_called};
-ghost use Rattle.cf_print_program.specs.Files.{opening_of as opening_of_called};
 ghost use Rattle.cf_print_shape.specs.Nones.{nones_of as all_nones};
 ghost use Rattle.cf_range.specs.Ranges.{whole};
 ghost use Rattle.cf_stmt.specs.BlockView.{block_tree};
 ghost use Rattle.cf_print_program.specs.EmissionView.{names_in, printing_of};
-ghost use Rattle.cf_print_program.specs.Printed.{IsPrint, are_statuses as statuses, called_of as function_called, fitting as wishes_that_fit, is_unread, functions_of as functions_for, lacks_sets as the_lacks_sets, printed as printed_text, setting_of, unread_in as not_read_in, unread_truths as truths_not_read};
+ghost use Rattle.cf_print_program.specs.Printed.{IsPrint, all_functions, are_statuses as statuses, called_of as function_called, first_draft, first_place as place_of_first, first_sight, fitting as wishes_that_fit, is_unread, functions_of as functions_for, lacks_sets as the_lacks_sets, printed as printed_text, setting_of, unread_in as not_read_in, unread_truths as truths_not_read};
 ghost use Rattle.cf_print_block.specs.PrinterView.{setting_in};
 ghost use Rattle.cf_print_term.specs.declared.numeral.TheConstants.{INT_END};
 
@@ -38,7 +36,7 @@ fn fitting<'a>(bases: &[Base], names: &'a [Text]) -> &'a [Text]
 }
 
 // The names that an emission wishes for, in its language.
-#[tactic(auto, unfolding(cf_print_block::specs::PrinterView::setting_in))]
+#[tactic(auto, unfolding(cf_print_block::specs::PrinterView::setting_in, crate::specs::Printed::setting_of))]
 fn printer_of<'a>(alloc: Global, emission: &Emission<'a>) -> Printer<'a>
     ensures { setting_in result ≡ setting_of (names_in emission.now.hints.now) (printing_of emission.now) }
 {
@@ -103,15 +101,25 @@ fn unread_in(
     both(alloc, &truths, pointers)
 }
 
+// The names that are wished for main's results.
+#[tactic(auto, unfolding(cf_print_block::specs::PrinterView::setting_in))]
+fn wished_results<'a>(printer: &Printer<'a>) -> &'a [Text]
+    ensures { result.now ≡ (setting_in printer.now).results }
+{
+    printer.results
+}
+
 // The function that is called.
+#[tactic(auto, unfolding(crate::specs::Printed::called_of))]
 fn called_of(printer: &Printer<'_>, emission: &Emission<'_>) -> Result<Called, NoMemory>
     requires { setting_in printer.now ≡ setting_of (names_in emission.now.hints.now) (printing_of emission.now) }
     ensures { IfOk result (λ f. f ≡ function_called (names_in emission.now.hints.now) (printing_of emission.now)) }
 {
     let alloc = printer.alloc;
     let hints = emission.hints;
+    let results = wished_results(printer);
     let params = names_for(printer, Role::Value, &hints.params, emission.params, &[])?;
-    let pointers = pointers_for(printer, printer.results, emission.results, &params)?;
+    let pointers = pointers_for(printer, results, emission.results, &params)?;
     let unread = unread_in(alloc, emission.body, &params, emission.params, &pointers)?;
     let nones = nones_of(emission.body, Vec::new(alloc))?;
     Ok(Called {
@@ -121,26 +129,33 @@ fn called_of(printer: &Printer<'_>, emission: &Emission<'_>) -> Result<Called, N
         params,
         bases: Vec::from_slice(alloc, emission.params)?,
         results: Vec::from_slice(alloc, emission.results)?,
-        result_names: copies(alloc, printer.results)?,
+        result_names: copies(alloc, results)?,
         pointers,
         unread,
         nones,
     })
 }
 
+// Of a parameter only the base is known.
+fn range_for(_base: Base) -> Range
+    ensures { result ≡ whole }
+{
+    Range::whole()
+}
+
 fn ranges_for(alloc: Global, bases: &[Base]) -> Result<Vec<Range>, NoMemory>
     ensures { IfOk result (λ all. all.items ≡ map (λ b. whole) bases.now) }
 {
     let mut all = Vec::new(alloc);
-    for _base in bases {
-        all.push(Range::whole())?;
+    for base in bases {
+        all.push(range_for(*base))?;
     }
     Ok(all)
 }
 
 // What is known before its first statement.
 fn scope_of(alloc: Global, function: &Called) -> Result<Scope, NoMemory>
-    ensures { IfOk result (λ s. s ≡ record { names = function.now.params; bases = function.now.bases; ranges = map (λ b. whole) function.now.bases }) }
+    ensures { IfOk result (λ s. s ≡ first_sight function.now) }
 {
     let names = copies(alloc, &function.params)?;
     let bases = Vec::from_slice(alloc, &function.bases)?;
@@ -152,15 +167,9 @@ fn scope_of(alloc: Global, function: &Called) -> Result<Scope, NoMemory>
 }
 
 // Its draft before its first statement.
-#[tactic(auto, unfolding(cf_print_block::specs::PrinterView::setting_in))]
+#[tactic(auto, unfolding(cf_print_block::specs::PrinterView::setting_in, crate::specs::Printed::first_draft))]
 fn draft_of(printer: &Printer<'_>, has_main: bool, function: &Called) -> Result<Draft, NoMemory>
-    ensures { IfOk result (λ d. d ≡ record {
-      lines = opening_of_called (setting_in printer.now).language has_main function.now;
-      pointers = function.now.pointers;
-      taken = function.now.params ++ function.now.pointers;
-      functions = [];
-      numbers = [];
-    }) }
+    ensures { IfOk result (λ d. d ≡ first_draft (setting_in printer.now) has_main function.now) }
 {
     let alloc = printer.alloc;
     let opening = opening_of(alloc, printer.language, has_main, function)?;
@@ -178,7 +187,7 @@ fn draft_of(printer: &Printer<'_>, has_main: bool, function: &Called) -> Result<
 // The functions of a draft that is done, and its own.
 #[tactic(auto, unfolding(cf_print_block::specs::PrinterView::setting_in))]
 fn ended(printer: &Printer<'_>, draft: Draft) -> Result<Vec<u8>, NoMemory>
-    ensures { IfOk result (λ all. all.items ≡ (draft.functions ++ draft.lines) ++ end_of_called (setting_in printer.now).language) }
+    ensures { IfOk result (λ all. all.items ≡ all_functions (setting_in printer.now) draft) }
 {
     let mut all = draft.functions;
     all.extend_from_slice(&draft.lines)?;
@@ -186,7 +195,19 @@ fn ended(printer: &Printer<'_>, draft: Draft) -> Result<Vec<u8>, NoMemory>
     Ok(all)
 }
 
+fn first_place() -> Place
+    ensures { result ≡ place_of_first }
+{
+    Place {
+        depth: 1,
+        exit: Exit::Falls,
+        arms: 0,
+        giving: Giving::Results,
+    }
+}
+
 // The functions of a program, of which the last is the one that is called.
+#[tactic(auto, unfolding(crate::specs::Printed::functions_of))]
 fn functions_of(
     printer: &Printer<'_>,
     has_main: bool,
@@ -195,15 +216,9 @@ fn functions_of(
 ) -> Result<Vec<u8>, NoMemory>
     ensures { IfOk result (λ all. all.items ≡ functions_for (setting_in printer.now) has_main function.now (block_tree block.now)) }
 {
-    let place = Place {
-        depth: 1,
-        exit: Exit::Falls,
-        arms: 0,
-        giving: Giving::Results,
-    };
     let draft = draft_of(printer, has_main, function)?;
     let scope = scope_of(printer.alloc, function)?;
-    let done = put_block(printer, scope, block, place, draft)?;
+    let done = put_block(printer, scope, block, first_place(), draft)?;
     ended(printer, done)
 }
 
@@ -224,11 +239,18 @@ fn printed(alloc: Global, emission: &Emission<'_>) -> Result<Text, NoMemory>
     )
 }
 
+// Whether a number of a choose is one of C's `int`.
+fn is_int(number: u32) -> bool
+    ensures { result ≡ nat_lt number INT_END }
+{
+    (number as u128) < INT_END
+}
+
 fn are_ints(numbers: &[u32]) -> bool
     ensures { result ≡ list_all (λ n. nat_lt n INT_END) numbers.now }
 {
     for number in numbers {
-        if u128::from(*number) >= INT_END {
+        if !is_int(*number) {
             return false;
         }
     }
@@ -249,6 +271,7 @@ fn are_statuses(alloc: Global, language: Language, block: &Block) -> Result<bool
 }
 
 // The file of a program whose arms are left at their ends alone.
+#[tactic(auto, using(crate::proofs::PrintLaws::is_a_print))]
 fn checked(alloc: Global, emission: &Emission<'_>) -> Result<Text, NoMemory>
     ensures { IfOk result (λ text. IsPrint (printing_of emission.now) text) }
 {
@@ -258,7 +281,8 @@ fn checked(alloc: Global, emission: &Emission<'_>) -> Result<Text, NoMemory>
     if !are_statuses(alloc, emission.language, emission.body)? {
         return Err(NoMemory);
     }
-    printed(alloc, emission)
+    let text = printed(alloc, emission)?;
+    Ok(text)
 }
 
 /// The program as a file of the language.
@@ -270,7 +294,7 @@ fn checked(alloc: Global, emission: &Emission<'_>) -> Result<Text, NoMemory>
 pub fn emitted(alloc: Global, emission: &Emission<'_>) -> Result<Text, EmitFault>
     ensures text { IfOk result (λ text. IsPrint (printing_of emission.now) text) }
     ensures free { IfOk result (λ text. the_lacks_sets (printing_of emission.now) ≡ false) }
-    ensures sets { IfErr result (λ fault. fault ≡ EmitFault.Sets → the_lacks_sets (printing_of emission.now) ≡ true) }
+    ensures sets { IsErrOf result EmitFault.Sets → the_lacks_sets (printing_of emission.now) ≡ true }
 {
     if lacks_sets(emission) {
         return Err(EmitFault::Sets);
