@@ -38,6 +38,14 @@ pub const JAVASCRIPT_WORDS: &[u8] = b" \
     rising same set set_of spelled static subset super switch text this throw total true truth try typeof undefined \
     union values var void while whole with written yield ";
 
+/// The words of Rust, and of printed Rust.
+pub const RUST_WORDS: &[u8] = b" \
+    BTreeSet Borrow ComfusyError Err None Ok Option Result Self Some String Value Vec abstract add alloc as async \
+    await become bool box break card const continue core crate cut diff do dyn else enum extern false final fit fn for \
+    fresh gen i128 if impl in inter let line loop macro macro_rules main match mod move mul mut outputs override priv \
+    pub raw read ref replied reply rest return safe same self static std str struct sub subset super total trait true \
+    try type typeof u32 u8 union unsafe unsized use usize value values virtual where while white word written yield ";
+
 /// The words that no variable may have for its name.
 pub fn words_of(language: Language) -> &'static [u8]
     ensures { result.now ≡ words language }
@@ -46,5 +54,6 @@ pub fn words_of(language: Language) -> &'static [u8]
         Language::C => C_WORDS,
         Language::Python => PYTHON_WORDS,
         Language::JavaScript => JAVASCRIPT_WORDS,
+        Language::Rust => RUST_WORDS,
     }
 }

@@ -237,7 +237,7 @@ pub(crate) fn give_back(printer: &Printer<'_>, place: Place, held: Held) -> Resu
     ensures { IfOk result (λ d. d ≡ given_back (setting_in printer.now) place held) }
 {
     let Held { values, draft } = held;
-    let texts = texts_of(printer.alloc, &values)?;
+    let texts = texts_of(printer.alloc, printer.language, &values)?;
     let Draft {
         mut lines,
         pointers,

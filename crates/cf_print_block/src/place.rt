@@ -72,7 +72,9 @@ pub(crate) fn arm_place(language: Language, place: Place) -> Result<Place, NoMem
 {
     match language {
         Language::Python => Ok(leaving_by(Exit::Falls, place)),
-        Language::C | Language::JavaScript => deeper(leaving_by(Exit::Falls, place)),
+        Language::C | Language::JavaScript | Language::Rust => {
+            deeper(leaving_by(Exit::Falls, place))
+        }
     }
 }
 

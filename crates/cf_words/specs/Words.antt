@@ -4,7 +4,7 @@ use Rattle.std.specs.List.{list_all, list_any, range_with_len}
 use Rattle.cf_print.specs.Names.{may_name}
 use Rattle.cf_print.specs.Words.{words_of}
 use Rattle.cf_print.specs.declared.language.Language.{Language}
-use Rattle.cf_print.specs.declared.language.Language.TheVariants.{C, Python, JavaScript}
+use Rattle.cf_print.specs.declared.language.Language.TheVariants.{C, Python, JavaScript, Rust}
 use Rattle.cf_words.specs.Commands.{Command, Emitting, compile, run, pre, check, exec, prove, emit, verify, gen, help, version, plain_command}
 use Rattle.cf_words.specs.declared.command.Command as declared
 use Rattle.cf_words.specs.declared.command.CheckFlags.{CheckFlags}
@@ -168,6 +168,7 @@ language_of word =
     if bytes_eq word (codes "c") then Some C
     else if bytes_eq word (codes "python") then Some Python
     else if bytes_eq word (codes "js") then Some JavaScript
+    else if bytes_eq word (codes "rust") then Some Rust
     else None
 
 -- what stands behind `--name`, or nothing where it stands last; and where it does not stand, the name that a function has then

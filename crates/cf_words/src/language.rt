@@ -17,6 +17,8 @@ pub(crate) fn language_of(word: &str) -> Result<Language, WordsFault>
         Ok(Language::Python)
     } else if word == "js" {
         Ok(Language::JavaScript)
+    } else if word == "rust" {
+        Ok(Language::Rust)
     } else if is_not_built(word) {
         Err(WordsFault::NoMemory)
     } else {
@@ -26,5 +28,5 @@ pub(crate) fn language_of(word: &str) -> Result<Language, WordsFault>
 
 // A language for which there is a word, and no printer yet.
 fn is_not_built(word: &str) -> bool {
-    word == "rust" || word == "smt"
+    word == "smt"
 }
