@@ -2,7 +2,7 @@
 use Rattle.std.proofs.Common.{◌≡◌, ℕ, List, refl, true, false, [], ◌∷◌, Some, None, codes}
 use Rattle.std.specs.Fmt.{digits}
 use Rattle.cf_print.specs.declared.language.Language.TheVariants.{C, Python, JavaScript}
-use Rattle.cf_words.specs.Commands.{compile, run, pre, check, exec, prove, emit, verify, gen, help, version}
+use Rattle.cf_words.specs.Commands.{compile, run, pre, check, exec, prove, emit, goals, verify, gen, help, version}
 use Rattle.cf_words.specs.Words.{command_of, is_flag, is_name, is_operand, may_be_read, most_size}
 use Rattle.cf_words.specs.declared.command.ReplyForm.{ReplyForm}
 use Rattle.cf_words.specs.declared.command.Strictness.TheVariants as strictness
@@ -393,6 +393,16 @@ emit_in_another_language = refl
 -- there is a word for it, and no printer yet
 emit_not_built : command_of (codes "emit" ∷ codes "rust" ∷ codes "a" ∷ []) ≡ None
 emit_not_built = refl
+
+emit_goals_of_a_file : command_of (codes "emit" ∷ codes "smt" ∷ codes "a" ∷ []) ≡ Some (goals (codes "a"))
+emit_goals_of_a_file = refl
+
+emit_goals_with_main : command_of (codes "emit" ∷ codes "smt" ∷ codes "a" ∷ codes "--main" ∷ []) ≡ None
+emit_goals_with_main = refl
+
+-- also where it is the usual name
+emit_goals_with_name : command_of (codes "emit" ∷ codes "--name" ∷ codes "answer" ∷ codes "smt" ∷ codes "a" ∷ []) ≡ None
+emit_goals_with_name = refl
 
 emit_without_file : command_of (codes "emit" ∷ codes "c" ∷ []) ≡ None
 emit_without_file = refl

@@ -26,5 +26,5 @@ pub(crate) fn language_of(word: &str) -> Result<Language, WordsFault>
 
 // A language for which there is a word, and no printer yet.
 fn is_not_built(word: &str) -> bool {
-    word == "rust" || word == "smt"
+    word == "rust"
 }
