@@ -41,6 +41,12 @@ name = refl
 begins_with_digit : is_name (codes "2h") ≡ false
 begins_with_digit = refl
 
+free : name_in_python [] (Some (codes "total")) ≡ codes "total"
+free = refl
+
+sums : may_name (words_of C) (codes "sum_of") ≡ false
+sums = refl
+
 helper : may_name (words_of Python) (codes "fit") ≡ false
 helper = refl
 

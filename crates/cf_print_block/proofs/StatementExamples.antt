@@ -138,6 +138,24 @@ arms : lines_in Python two_arms ≡ codes "    # Arm 1.\n    n1 = fit(x - 10)\n 
 unfolding digits with_let with_variable all_in_variables bound_for inner_behind inner_ahead kept function_of begun results_held called in_place give_back first_side second_side branched tested guarded plain_arm searched_arm with_loop function_name deeper leaving_by behind_arm giving name_in put taking freed behind_one ahead at_hand
 arms = refl
 
+-- where an arm declares a variable it has a scope, and where it is one `if` it has none
+arms_in_c : lines_in C two_arms ≡
+    codes "    // Arm 1.\n    {\n        whole n1 = sub(x, 10, &past);\n        if (n1 >= 0) {\n            *out = n1;\n            return past ? COMFUSY_OVERFLOW : 0;\n        }\n    }\n    // Arm 2.\n    if (x < 0)\n        return past ? COMFUSY_OVERFLOW : 7;\n    *out = x;\n    return past ? COMFUSY_OVERFLOW : 0;\n"
+unfolding digits with_let with_variable all_in_variables bound_for inner_behind inner_ahead kept function_of begun results_held called in_place give_back first_side second_side branched tested guarded plain_arm searched_arm with_loop function_name deeper leaving_by behind_arm giving name_in put taking freed behind_one ahead at_hand
+arms_in_c = refl
+
+abbrev one_if : Block
+one_if = arm [] (test (give (code_compare Ge (var 0) (num 10))) (give (var 0)) leave) (arm [] (give (num 3)) (none 7))
+
+one_if_in_c : lines_in C one_if ≡
+    codes "    // Arm 1.\n    if (x >= 10) {\n        *out = x;\n        return past ? COMFUSY_OVERFLOW : 0;\n    }\n    // Arm 2.\n    *out = 3;\n    return past ? COMFUSY_OVERFLOW : 0;\n"
+unfolding digits with_let with_variable all_in_variables bound_for inner_behind inner_ahead kept function_of begun results_held called in_place give_back first_side second_side branched tested guarded plain_arm searched_arm with_loop function_name deeper leaving_by behind_arm giving name_in put taking freed behind_one ahead at_hand
+one_if_in_c = refl
+
+one_if_in_javascript : lines_in JavaScript one_if ≡ codes "  // Arm 1.\n  if (x >= 10n) {\n    return x;\n  }\n  // Arm 2.\n  return 3n;\n"
+unfolding digits with_let with_variable all_in_variables bound_for inner_behind inner_ahead kept function_of begun results_held called in_place give_back first_side second_side branched tested guarded plain_arm searched_arm with_loop function_name deeper leaving_by behind_arm giving name_in put taking freed behind_one ahead at_hand
+one_if_in_javascript = refl
+
 search : lines_in Python (arm (6 ∷ []) (test (give (code_compare Ge (sum (var 1 ∷ var 1 ∷ [])) (var 0))) (give (var 1)) leave) (none 3)) ≡
     codes "    for i in range(6):\n        if i + i < x:\n            continue\n        return i\n    raise NoSolution(3)\n"
 unfolding digits with_let with_variable all_in_variables bound_for inner_behind inner_ahead kept function_of begun results_held called in_place give_back first_side second_side branched tested guarded plain_arm searched_arm with_loop function_name deeper leaving_by behind_arm giving name_in put taking freed behind_one ahead at_hand

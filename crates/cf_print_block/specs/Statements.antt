@@ -8,7 +8,7 @@ use Rattle.cf_print_term.specs.Expressions.{Sight}
 use Rattle.cf_print_line.specs.Heads.{all_parameters, part_opening, part_closing}
 use Rattle.cf_print_line.specs.Layout.{line, let_lines, read_lines, comment_text, none_text, next_text, fall_lines, if_text, guard_text, end_lines, guard_end, else_lines, scope_lines, search_text, give_lines, call_lines}
 use Rattle.cf_print_block.specs.Places.{Setting, table, name_in, deeper, leaving_by, behind_arm, outputs_at, giving_of, giving, Draft, put, taking, freed, given, variable, first_at_hand, behind_one, behind, ahead, Held, wish_at}
-use Rattle.cf_print_shape.specs.Shapes.{number_of, is_none, is_leave, exit_of, gives, is_straight, can_fall, is_plain, block_reads, those_read, results_of}
+use Rattle.cf_print_shape.specs.Shapes.{number_of, is_none, is_leave, is_if, exit_of, gives, is_straight, can_fall, is_plain, block_reads, those_read, results_of}
 use Rattle.cf_print_shape.specs.Wishes.{given_at}
 use Rattle.cf_print.specs.Names.{is_one_of}
 use Rattle.cf_print.specs.declared.language.Language.{Language}
@@ -280,17 +280,26 @@ guarded s p a b h yes_side no_side = guarded_by (exit_of p.exit b) (exit_of p.ex
 
 -- ---- arms
 
-abbrev pub arm_place : Language → Place → Place
-arm_place Python p = leaving_by Falls p
-arm_place C p = deeper (leaving_by Falls p)
-arm_place JavaScript p = deeper (leaving_by Falls p)
+-- an arm has a scope for its variables, unless these stand within an `if`
+abbrev pub has_scope : Language → Block → Bool
+has_scope Python a = false
+has_scope C a = not (is_if a)
+has_scope JavaScript a = not (is_if a)
+
+abbrev pub arm_place : Bool → Place → Place
+arm_place true p = deeper (leaving_by Falls p)
+arm_place false p = leaving_by Falls p
+
+abbrev pub put_when : Bool → List ℕ → Draft → Draft
+put_when true lines d = put lines d
+put_when false lines d = d
 
 -- an arm without searches: the last one has guards
-unfoldable pub plain_arm : Setting → Place → Option ℕ → (Place → Draft → Draft) → (Place → Draft → Draft) → Draft → Draft
-plain_arm s p (Some n) body later d = body (leaving_by (Ends n) p) (put (arm_lines s.language p (Some n)) d)
-plain_arm s p None body later d =
-    let ended = body (arm_place s.language p) (put (scope_lines s.language p.depth) (put (arm_lines s.language p None) d)) in
-    later (behind_arm p) (put (end_lines s.language p.depth) (freed (length d.taken) ended))
+unfoldable pub plain_arm : Setting → Place → Option ℕ → Bool → (Place → Draft → Draft) → (Place → Draft → Draft) → Draft → Draft
+plain_arm s p (Some n) scoped body later d = body (leaving_by (Ends n) p) (put (arm_lines s.language p (Some n)) d)
+plain_arm s p None scoped body later d =
+    let ended = body (arm_place scoped p) (put_when scoped (scope_lines s.language p.depth) (put (arm_lines s.language p None) d)) in
+    later (behind_arm p) (put_when scoped (end_lines s.language p.depth) (freed (length d.taken) ended))
 
 -- what the variable of the j-th search is named after: i, j, k, k3 and so on
 abbrev pub search_letter : ℕ → List ℕ
@@ -356,7 +365,7 @@ abbrev mutual
   block s w (arm ks a b) p d =
       let q = giving s (number_of b) p in
       if nat_eq (length ks) 0
-      then plain_arm s q (is_none b) (block s w a) (block s w b) d
+      then plain_arm s q (is_none b) (has_scope s.language a) (block s w a) (block s w b) d
       else searched_arm s q w ks (is_none b) (λ v. block s v a) (block s w b) d
 
   -- the values of a straight block, behind its statements

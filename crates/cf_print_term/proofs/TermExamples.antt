@@ -166,13 +166,13 @@ unfolding digits
 c_sum = refl
 
 -- one of more parts is one call, whose parts stand as they are
-total : python (sum (var 0 ∷ code_neg (var 1) ∷ num 1 ∷ [])) ≡ codes "total(x, -y, 1)"
+sum_of_three : python (sum (var 0 ∷ code_neg (var 1) ∷ num 1 ∷ [])) ≡ codes "sum_of(x, -y, 1)"
 unfolding digits
-total = refl
+sum_of_three = refl
 
-c_total : in_c (sum (var 0 ∷ code_neg (var 1) ∷ num 1 ∷ [])) ≡ codes "total((const whole[]){x, -y, 1, END}, &past)"
+c_sum_of : in_c (sum (var 0 ∷ code_neg (var 1) ∷ num 1 ∷ [])) ≡ codes "sum_of((const whole[]){x, -y, 1, END}, &past)"
 unfolding digits
-c_total = refl
+c_sum_of = refl
 
 c_numerals : in_c (sum (num 2 ∷ num 3 ∷ [])) ≡ codes "add(2, 3, &past)"
 unfolding digits
@@ -221,9 +221,9 @@ js_sum : in_js (sum (var 0 ∷ var 1 ∷ [])) ≡ codes "fit(x + y)"
 unfolding digits
 js_sum = refl
 
-js_total : in_js (sum (var 0 ∷ code_neg (var 1) ∷ num 1 ∷ [])) ≡ codes "total(x, -y, 1n)"
+js_sum_of : in_js (sum (var 0 ∷ code_neg (var 1) ∷ num 1 ∷ [])) ≡ codes "sum_of(x, -y, 1n)"
 unfolding digits
-js_total = refl
+js_sum_of = refl
 
 js_difference : in_js (code_sub (var 1) (code_sub (num 1) (var 1))) ≡ codes "y - (1n - y)"
 unfolding digits

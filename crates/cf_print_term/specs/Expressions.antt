@@ -255,7 +255,7 @@ abbrev mutual
   sum_of t w passes all (code_more a (code_more b no_codes)) =
       first_two t (passes || both_small t a b) (below_of t w a) (term_of t w a) (below_of t w b) (term_of t w b)
   sum_of t w passes all (code_more a (code_more b (code_more c cs))) =
-      if passes then call t.total all
+      if passes then call t.sum_of all
       else sum_behind t w (first_two t (both_small t a b) (below_of t w a) (term_of t w a) (below_of t w b) (term_of t w b)) (code_more c cs)
 
   -- a sum that has come to a term, and all other parts

@@ -472,7 +472,7 @@ fn sum(walk: &Walk<'_>, parts: &[Code], passes: bool) -> Result<Term, NoMemory>
         [only] => term_of(walk, only),
         [_, _] => two_summed(walk, parts, passes),
         [_, _, _, ..] => if passes {
-            total(walk, parts)
+            sum_by_call(walk, parts)
         } else {
             let start = two_summed(walk, parts, false)?;
             sum_behind(walk, parts, start)
@@ -482,13 +482,13 @@ fn sum(walk: &Walk<'_>, parts: &[Code], passes: bool) -> Result<Term, NoMemory>
 
 // A sum by a call on all its parts.
 #[cycle(term_of)]
-fn total(walk: &Walk<'_>, parts: &[Code]) -> Result<Term, NoMemory>
+fn sum_by_call(walk: &Walk<'_>, parts: &[Code]) -> Result<Term, NoMemory>
     ensures { IfOk result (λ t. term_tree t ≡
-        call walk.now.table.now.total (terms_of walk.now.table.now walk.now.scope.now (code_trees parts.now))) }
+        call walk.now.table.now.sum_of (terms_of walk.now.table.now walk.now.scope.now (code_trees parts.now))) }
 {
     let table = walk.table;
     let all = terms(walk, parts)?;
-    Ok(call_on_all(table.total, all))
+    Ok(call_on_all(table.sum_of, all))
 }
 
 // The sum of the first two parts, of which only what is printed is made.

@@ -109,7 +109,7 @@ pub struct Table {
     pub orders: Orders,
     pub sum: Checked,
     /// A sum of three parts or more that may pass the limit on its way.
-    pub total: Call,
+    pub sum_of: Call,
     pub difference: Checked,
     pub product: Checked,
     pub quotient: Divided,
@@ -219,7 +219,7 @@ pub const PYTHON: Table = Table {
         ge: alone!(Mark::AtLeast, COMPARE),
     },
     sum: fitted!(chain!(Mark::Plus, ADD)),
-    total: call!(Mark::Total),
+    sum_of: call!(Mark::SumOf),
     difference: fitted!(chain!(Mark::Minus, ADD)),
     product: fitted!(chain!(Mark::Star, MULTIPLY)),
     quotient: Divided {
@@ -288,9 +288,9 @@ pub const C: Table = Table {
         ge: alone!(Mark::AtLeast, COMPARE),
     },
     sum: flagged!(chain!(Mark::Plus, ADD), Mark::Add),
-    total: Call {
-        opening: Mark::TotalOf,
-        closing: Mark::EndOfTotal,
+    sum_of: Call {
+        opening: Mark::SumOfArray,
+        closing: Mark::EndOfArray,
     },
     difference: flagged!(chain!(Mark::Minus, ADD), Mark::Sub),
     product: flagged!(chain!(Mark::Star, MULTIPLY), Mark::Mul),
@@ -344,7 +344,7 @@ pub const JAVASCRIPT: Table = Table {
         ge: alone!(Mark::AtLeast, COMPARE),
     },
     sum: fitted!(chain!(Mark::Plus, ADD)),
-    total: call!(Mark::Total),
+    sum_of: call!(Mark::SumOf),
     difference: fitted!(chain!(Mark::Minus, ADD)),
     product: fitted!(chain!(Mark::Star, MULTIPLY)),
     quotient: Divided {
