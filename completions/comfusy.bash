@@ -3,14 +3,18 @@ _comfusy() {
   local word=${COMP_WORDS[COMP_CWORD]} command=${COMP_WORDS[1]} kind=cf
   COMPREPLY=()
   if [ "$COMP_CWORD" = 1 ]; then
-    mapfile -t COMPREPLY < <(compgen -W 'compile pre check run exec prove verify gen --help --version' -- "$word")
+    mapfile -t COMPREPLY < <(compgen -W 'compile pre check run exec prove emit verify gen --help --version' -- "$word")
   elif [[ $word == -* ]]; then
     case $command in
       compile) mapfile -t COMPREPLY < <(compgen -W '- --plain --stats' -- "$word") ;;
       run) mapfile -t COMPREPLY < <(compgen -W '--plain --stats --key --jsonl' -- "$word") ;;
       exec) mapfile -t COMPREPLY < <(compgen -W '--key --jsonl' -- "$word") ;;
-      pre | check | prove) mapfile -t COMPREPLY < <(compgen -W '-' -- "$word") ;;
+      check) mapfile -t COMPREPLY < <(compgen -W '- --strict --unique' -- "$word") ;;
+      emit) mapfile -t COMPREPLY < <(compgen -W '- --main --name' -- "$word") ;;
+      pre | prove) mapfile -t COMPREPLY < <(compgen -W '-' -- "$word") ;;
     esac
+  elif [ "$command" = emit ] && [ "$COMP_CWORD" = 2 ]; then
+    mapfile -t COMPREPLY < <(compgen -W 'c python js' -- "$word")
   elif [ "$command" != gen ]; then
     [ "$command" != exec ] || kind=target
     [[ $command != verify || $COMP_CWORD = 2 ]] || kind=steps

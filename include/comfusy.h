@@ -26,7 +26,9 @@ enum {
   COMFUSY_LIMIT = 10,      /* a counted limit is passed, or that of what is written */
   COMFUSY_INPUT_LONG = 11, /* the input is too long, in language 2 */
   COMFUSY_NO_MEMORY = 12,  /* memory ran out; what is in the buffers may be cut */
-  COMFUSY_REJECTED = 13    /* steps are not accepted */
+  COMFUSY_REJECTED = 13,   /* steps are not accepted */
+  COMFUSY_NO = 14,         /* all is written, and of a strict check some answers are no */
+  COMFUSY_UNDECIDED = 15   /* the same where none is no, and some are undecided */
 };
 
 /* Counted bytes: `at` points to `size` of them. They need no zero behind them, and may hold any bytes. */

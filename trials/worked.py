@@ -60,7 +60,7 @@ def of_source(name: str, text: bytes, given: bytes) -> list[Worked]:
 def worked_runs() -> list[Worked]:
     """The worked runs, by each command that takes them.
 
-    They are seconds, a set that is split, remainders, a match, a source of edition 3, a target, a workload, a product of an input, and steps.
+    They are seconds, a set that is split, remainders, a match, a source of edition 3, a target, a workload, a product of an input, steps, and other languages.
     """
     seconds, given = example("seconds"), lines("seconds").read_bytes()
     parcel = example("parcel")
@@ -80,6 +80,10 @@ def worked_runs() -> list[Worked]:
         Worked("prove seconds", ("prove", "file"), seconds),
         Worked("prove remainders", ("prove", "file"), remainders),
         Worked("prove parcel", ("prove", "file"), parcel),
+        Worked("emit c seconds", ("emit", "c", "file", "--main"), seconds),
+        Worked("emit c splitting", ("emit", "c", "file"), SPLIT),
+        Worked("emit python splitting", ("emit", "python", "file", "--main"), SPLIT),
+        Worked("emit js parcel", ("emit", "js", "file", "--name", "parcel"), parcel),
         Worked("verify seconds", ("verify", "file", "steps"), seconds, steps=steps("seconds")),
         Worked("verify parcel", ("verify", "file", "steps"), parcel, steps=steps("parcel")),
         Worked("verify rounding", ("verify", "file", "steps"), example("even"), steps=steps("steps/other")),

@@ -543,18 +543,18 @@ const examples = [
   "lines": "14\n15\n25\n-15\n"
  },
  {
-  "name": "colour-doubt",
+  "name": "colour",
   "group": "When check complains",
-  "title": "colour-doubt: uniqueness undecided",
+  "title": "colour: uniqueness undecided",
   "source": "comfusy 3\n# A colour that is one number, taken apart into red, green and blue.\ndef main(colour: int): (int, int, int) =\n  choose (red: int, green: int, blue: int) given 0 <= colour < 16777216\n  where 65536 * red + 256 * green + blue == colour && 0 <= green < 256 && 0 <= blue < 256\n",
   "lines": "0\n16777215\n66051\n-1\n"
  },
  {
-  "name": "colour",
+  "name": "shifts-doubt",
   "group": "When check complains",
-  "title": "colour: uniqueness undecided",
-  "source": "comfusy 3\n# The same, with a name for red and green together.\ndef main(colour: int): (int, int, int) =\n  choose (red: int, green: int, blue: int; high: int) given 0 <= colour < 16777216\n  where 256 * high + blue == colour && 256 * red + green == high && 0 <= green < 256 && 0 <= blue < 256\n",
-  "lines": "0\n16777215\n66051\n-1\n"
+  "title": "shifts-doubt: uniqueness undecided",
+  "source": "comfusy 3\n# Two of the staff for each of three days: nobody who is ill, and nobody on two days in a row.\ndef main(staff: set, ill: set): (set, set, set) =\n  choose (mon: set, tue: set, wed: set) given card(staff diff ill) >= 4\n  where card(mon) == 2 && card(tue) == 2 && card(wed) == 2 && mon union tue union wed subset staff diff ill\n    && mon inter tue == {} && tue inter wed == {}\n",
+  "lines": "{1, 2, 3, 4, 5} {2}\n{7, 8, 9, 10} {}\n{1, 2, 3} {}\n"
  },
  {
   "name": "beyond",
@@ -569,6 +569,20 @@ const examples = [
   "title": "total",
   "source": "comfusy 3\n# The sum has a name of its own, so that it stands in an equation.\ndef main(a: int, b: int): (int, int) =\n  choose (x: int, y: int; sum: int) where 2097152 * x + 2097153 * y == sum && a <= sum <= b\n",
   "lines": "5 7\n1 0\n"
+ },
+ {
+  "name": "coins",
+  "group": "Take it home",
+  "title": "coins: In a page",
+  "source": "# Change in coins of 25, 10 and 1: the large coins first.\ndef main(total: int): (int, int, int) =\n  choose (big: int, mid: int, small: int)\n  where 25 * big + 10 * mid + small == total\n    && 0 <= mid && 0 <= small && small < 10 && 10 * mid + small < 25\n",
+  "lines": "67\n0\n24\n100\n-1\n"
+ },
+ {
+  "name": "split",
+  "group": "Take it home",
+  "title": "split: In C",
+  "source": "# Splits a set into two parts that differ by one element at most.\ndef main(s: set): (set, set) =\n  choose (l: set, r: set)\n  where l union r == s && l inter r == {} && card(l) - card(r) <= 1 && card(r) - card(l) <= 1\n",
+  "lines": "{}\n{3,1,2,1}\n{-5, 70}\n{9}\n"
  },
  {
   "name": "even",
@@ -862,13 +876,6 @@ const examples = [
   "lines": "0\n1\n719\n720\n-30\n"
  },
  {
-  "name": "coins",
-  "group": "Language 2",
-  "title": "coins",
-  "source": "# Change in coins of 25, 10 and 1: the large coins first.\ndef main(total: int): (int, int, int) =\n  choose (big: int, mid: int, small: int)\n  where 25 * big + 10 * mid + small == total\n    && 0 <= mid && 0 <= small && small < 10 && 10 * mid + small < 25\n",
-  "lines": "67\n0\n24\n100\n-1\n"
- },
- {
   "name": "stamps",
   "group": "Language 2",
   "title": "stamps",
@@ -916,13 +923,6 @@ const examples = [
   "title": "bill",
   "source": "# A bill of so many cents for three: the shares differ by one cent at most, and who comes first pays no less.\ndef main(bill: int): (int, int, int) =\n  choose (a: int, b: int, c: int)\n  where a + b + c == bill && a >= b && b >= c && a <= c + 1\n",
   "lines": "1000\n1001\n1002\n1\n0\n"
- },
- {
-  "name": "split",
-  "group": "Language 2",
-  "title": "split",
-  "source": "# Splits a set into two parts that differ by one element at most.\ndef main(s: set): (set, set) =\n  choose (l: set, r: set)\n  where l union r == s && l inter r == {} && card(l) - card(r) <= 1 && card(r) - card(l) <= 1\n",
-  "lines": "{}\n{3,1,2,1}\n{-5, 70}\n{9}\n"
  },
  {
   "name": "two",
@@ -1226,7 +1226,7 @@ const examples = [
   "lines": ""
  }
 ];
-const programSum = "1a376327ff274cb77d04bc6a6c8f56af0f4d14bc71242c4a844f2656bd9b70c4";
+const programSum = "7002d50950d45bdfaacf74ec8a5e84568ce62cbf736ae6b2e8b4ba42b2be2582";
 // What is read off the text of a program by its tokens.
 
 // The name that the program has for the page, and at home.
@@ -1571,7 +1571,7 @@ function helpOf(what, isAtEnd) {
 const statuses = {
   0: 'answered', 2: 'no such command', 3: 'a file cannot be read', 4: 'the input cannot be read', 5: 'the output cannot be written',
   6: 'refused for its text', 7: 'refused for its names and types', 8: 'refused as not linear', 9: 'refused as too large', 10: 'refused as too large',
-  11: 'the input is too long', 12: 'out of memory', 13: 'the steps are rejected',
+  11: 'the input is too long', 12: 'out of memory', 13: 'the steps are rejected', 14: 'some answers are no', 15: 'some answers are undecided',
 };
 
 function nameOfStatus(status) {

@@ -14,7 +14,7 @@ from pathlib import Path
 
 ROOT = Path(__file__).resolve().parent.parent.parent
 SEEN_OUT, SEEN_ERR = "seen.out", "seen.err"
-USAGE = b"usage: comfusy compile|pre|check|run|exec|prove FILE, or comfusy verify FILE STEPS, or comfusy gen N, or comfusy --help\n"
+USAGE = b"usage: comfusy compile|pre|check|run|exec|prove FILE, or comfusy emit LANG FILE, or comfusy verify FILE STEPS, or comfusy gen N, or comfusy --help\n"
 MOST_SECONDS = 100
 UNLIMITED = threading.TIMEOUT_MAX
 CLOSED = "&-"

@@ -12,6 +12,8 @@ In a table whose name begins with `refused` a row is COMMANDS, STATUS, WRITTEN, 
 `every` command on a source; all `but run`, which takes products with inputs; all `but verify`, which does not look into a choose; or `run` alone.
 In a table whose name begins with `steps` a row is STATUS, WRITTEN, STEPS, PROGRAM: what `verify` writes of the steps.
 In a table whose name begins with `verdicts` a row is VERDICTS, PROGRAM: how each line that `check` writes of a program begins, without samples.
+In a table whose name begins with `strict` a row is STRICT, UNIQUE, PROGRAM: what `check --strict` and `check --strict --unique` find in a program, which is
+`yes`, or how many answers are not, as `2 no` or `1 undecided`; they write what `check` writes.
 In a table whose name begins with `words` a row has a status and the words of a command line, each in a column: none is `-`. The files `source`,
 `target` and `steps` stand there. `2 silent` is a status 2 with nothing written, as for words that the system does not hand over.
 """
@@ -36,10 +38,11 @@ from .samples import try_samples
 
 ROWS_OF_A_JOB = 50
 NOT_LINEAR = 8
+STRICT = {b"no": 14, b"undecided": 15}
 INPUT_LONG = b"11"
 TALLIES = b"# fold 0\n# drop-needs 0\n# drop-arms 0\n# drop-lets 0\n"
-OTHER_COMMANDS = ("compile", "file"), ("pre", "file"), ("check", "file"), ("prove", "file"), ("verify", "file", "missing")
-ON_A_SOURCE = "compile", "pre", "check", "prove", "verify", "run"
+OTHER_COMMANDS = ("compile", "file"), ("emit", "python", "file"), ("pre", "file"), ("check", "file"), ("prove", "file"), ("verify", "file", "missing")
+ON_A_SOURCE = "compile", "emit", "pre", "check", "prove", "verify", "run"
 REFUSING = {b"every": ON_A_SOURCE, b"but run": ON_A_SOURCE[:-1], b"but verify": (*ON_A_SOURCE[:-2], "run"), b"run": ("run",)}
 
 
@@ -108,7 +111,7 @@ def try_refused(row: Row, room: Room) -> Iterator[Check]:
     commands, status, _, program = row.columns
     room.put("p.cf", row.texts[3])
     for command in REFUSING[commands]:
-        words = (command, "p.cf", "missing") if command == "verify" else (command, "p.cf")
+        words = {"verify": (command, "p.cf", "missing"), "emit": (command, "python", "p.cf")}.get(command, (command, "p.cf"))
         yield ended(row.name(program.removeprefix(b"comfusy 3\\n") + b", " + command.encode()), room.run(words, NO_INPUT), int(status), err=row.texts[2])
 
 
@@ -125,8 +128,26 @@ def try_words(row: Row, room: Room) -> Iterator[Check]:
         room.put(name, path.read_bytes())
     wanted, *words = row.texts
     seen = room.run(words if words != [b"-"] else [], NO_INPUT)
-    said = {b"2": USAGE, b"3": b"cannot read file\n"}.get(wanted, b"")
+    said = {b"2": USAGE, b"3": b"cannot read file\n", b"12": b"no memory\n"}.get(wanted, b"")
     yield ended(row.name(b" ".join(row.columns[:6])), seen, int(wanted.removesuffix(b" silent")), seen.out if wanted == b"0" else b"", said)
+
+
+def strict_end(found: bytes) -> tuple[int, bytes]:
+    """The status of a strict `check` that finds this, and what it writes to the standard error."""
+    if found == b"yes":
+        return 0, b""
+    count, so = found.split()
+    return STRICT[so], b"check: %s %s %s\n" % (count, b"answer is" if count == b"1" else b"answers are", so)
+
+
+def try_strict(row: Row, room: Room) -> Iterator[Check]:
+    *found, program = row.texts
+    room.put("p.cf", program)
+    told = room.run(("check", "p.cf"), NO_INPUT)
+    yield ended(row.name(row.columns[-1]), told, 0, told.out)
+    for flags, what in zip((("--strict",), ("--strict", "--unique")), found):
+        status, text = strict_end(what)
+        yield ended(row.name(row.columns[-1] + b", " + " ".join(flags).encode()), room.run(("check", *flags, "p.cf"), NO_INPUT), status, told.out, text)
 
 
 def no_row(row: Row, _: Room) -> Iterator[Check]:
@@ -139,6 +160,8 @@ def trial_of(row: Row) -> Callable[[Row, Room], Iterator[Check]]:
         return try_words
     if row.table.startswith("verdicts"):
         return try_verdicts
+    if row.table.startswith("strict"):
+        return try_strict
     if row.table.startswith("refused"):
         return try_refused
     of_four = try_steps if row.table.startswith("steps") else partial(try_text, "exec" if row.table.startswith("targets") else "run")
@@ -147,7 +170,7 @@ def trial_of(row: Row) -> Callable[[Row, Room], Iterator[Check]]:
 
 def is_of_replies(row: Row) -> bool:
     """Whether a row is of what `run` or `exec` does with an input of any length."""
-    return len(row.columns) != 3 and not row.table.startswith(("words", "verdicts", "refused", "steps")) and row.columns[0] != INPUT_LONG
+    return len(row.columns) != 3 and not row.table.startswith(("words", "verdicts", "strict", "refused", "steps")) and row.columns[0] != INPUT_LONG
 
 
 def try_rows(rows: list[Row], room: Room) -> Checks:

@@ -47,7 +47,7 @@ export function helpOf(what, isAtEnd) {
 const statuses = {
   0: 'answered', 2: 'no such command', 3: 'a file cannot be read', 4: 'the input cannot be read', 5: 'the output cannot be written',
   6: 'refused for its text', 7: 'refused for its names and types', 8: 'refused as not linear', 9: 'refused as too large', 10: 'refused as too large',
-  11: 'the input is too long', 12: 'out of memory', 13: 'the steps are rejected',
+  11: 'the input is too long', 12: 'out of memory', 13: 'the steps are rejected', 14: 'some answers are no', 15: 'some answers are undecided',
 };
 
 export function nameOfStatus(status) {

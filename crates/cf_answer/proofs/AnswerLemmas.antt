@@ -1,5 +1,5 @@
 -- From the answer on a text to how the command ends.
-use Rattle.std.proofs.Common.{◌≡◌, ◌∙◌, inl, inr, sym, ap, subst, refl, ℕ, ◌-◌, ◌≤◌, ◌+◌, true, false, List, [], ◌++◌, length, Option, Some, None, arith, append-nil, append_assoc}
+use Rattle.std.proofs.Common.{◌≡◌, ◌∙◌, inl, inr, sym, ap, ap₂, subst, refl, ℕ, ◌-◌, ◌≤◌, ◌+◌, Bool, true, false, nat_lt, if◌then◌else◌, List, [], ◌∷◌, ◌++◌, length, Option, Some, None, arith, append-nil, append_assoc}
 use Rattle.std.specs.Prelude.{◌⊎◌, Result, Ok, Err, IfErr, OnOk}
 use Rattle.std.specs.Io.KnownBytes.{Appends, Consumes}
 use Rattle.std.proofs.KnownBytes.{Appends-trans}
@@ -9,17 +9,21 @@ use Rattle.cf_io.specs.Limits.{IsWithin, IsPast}
 use Rattle.cf_io.specs.Lines.{lines, ended}
 use Rattle.cf_io.specs.Seen.{SinkSeen, SourceSeen}
 use Rattle.cf_pass.specs.Passes.{Told}
-use Rattle.cf_words.specs.Commands.{Command, compile, prove}
+use Rattle.cf_words.specs.Commands.{Command, check, compile, prove}
 use Rattle.cf_answer.specs.Commands.{reads_input, calls_passes, output_most}
-use Rattle.cf_answer.specs.Ends.{Job, input_for, answered_lines, behind_lines, Reads, IsReadUp, Wrote, IsStopped, Ends, AreSpared, AnswersOn}
+use Rattle.cf_answer.specs.Ends.{Job, input_for, answered_lines, behind_lines, Reads, IsReadUp, Wrote, IsDone, IsStopped, Ends, AreSpared, AnswersOn}
 use Rattle.cf_answer.specs.Limits.{edition_for, input_most}
 use Rattle.cf_tree.specs.declared.base.Edition.{Edition}
 use Rattle.cf_answer.specs.Outside.{Streams, streams, AreTold, Counts, one_past}
-use Rattle.cf_answer.specs.Owed.{Replier, AreReplies, Owes}
+use Rattle.cf_answer.specs.Owed.{Replier, AreReplies, AreSourceChecks, Owes, Judges}
 use Rattle.cf_answer.specs.Passes.{ArePassed, closing}
 use Rattle.cf_answer.specs.Refusals.{Refuses}
 use Rattle.cf_answer.specs.Statuses.{fault_status, status_of, IsEarly}
 use Rattle.cf_answer.specs.Steps.{RunsOn, RunsThrough, cut, part, whole, IsOutFault}
+use Rattle.cf_words.specs.declared.command.Strictness.{Strictness}
+use Rattle.cf_answer.specs.Unmet.{end_of, judged, unmet_for}
+use Rattle.cf_answer.specs.declared.unmet.Answered.{Answered}
+use Rattle.cf_answer.specs.declared.unmet.Unmet.{Unmet}
 use Rattle.cf_answer.specs.declared.fault.Fault.{Fault}
 use Rattle.cf_answer.specs.declared.fault.Fault.TheVariants as fault
 use Rattle.cf_answer.proofs.FaultLemmas.{failed, IsTextFault, refused_fault}
@@ -38,6 +42,8 @@ refused_ends job before after fault.Input h r e = absurd h
 refused_ends job before after fault.Output h r e = absurd h
 refused_ends job before after fault.InputTooLong h r e = absurd h
 refused_ends job before after fault.OutputTooLong h r e = absurd h
+refused_ends job before after (fault.AnswersNo n) h r e = absurd h
+refused_ends job before after (fault.AnswersUndecided n) h r e = absurd h
 refused_ends job before after fault.NoMemory h r e = absurd h
 refused_ends job before after f h r e = (r, e)
 
@@ -126,10 +132,11 @@ abbrev Fits : Job → List ℕ → Type 0
 Fits job printed = IsWithin (output_most job.command (edition_for job.files)) (length (printed ++ closing job.command job.passes))
 
 -- how it ends where all or a prefix was written
-wrote_all : (job : Job) (before after : Streams) (printed : List ℕ) → reads_input job.command ≡ false → after.input.left ≡ before.input.left →
-    Owes job.command job.files job.given job.passes [] printed → Fits job printed →
-    Appends before.out.held after.out.held (printed ++ closing job.command job.passes) → Ends job before after (Ok tt)
-wrote_all job before after printed e same owed fits took = (
+wrote_all : (job : Job) (before after : Streams) (printed : List ℕ) (answer : Result (Unit {0}) Fault) → reads_input job.command ≡ false →
+    after.input.left ≡ before.input.left →
+    Owes job.command job.files job.given job.passes [] printed → Judges job.command job.files printed answer → Fits job printed →
+    Appends before.out.held after.out.held (printed ++ closing job.command job.passes) → IsDone job before after answer
+wrote_all job before after printed answer e same owed judges fits took = (
   [],
   subst (λ b. IsReadUp b after.input.left) (sym e) tt,
   none_within (input_most job.files),
@@ -140,6 +147,7 @@ wrote_all job before after printed e same owed fits took = (
     fits = fits;
     took = took;
   },
+  judges,
 )
 
 wrote_prefix : (job : Job) (before after : Streams) (printed : List ℕ) → reads_input job.command ≡ false → after.input.left ≡ before.input.left →
@@ -170,11 +178,12 @@ out_ends job before after f (inr memory) h = subst (λ v. Ends job before after 
 
 written_ends : (job : Job) (before after : Streams) (printed : List ℕ) (answer : Result (Unit {0}) Fault) → reads_input job.command ≡ false →
     after.input.left ≡ before.input.left →
-    Owes job.command job.files job.given job.passes [] printed → Fits job printed →
+    Owes job.command job.files job.given job.passes [] printed → Judges job.command job.files printed (Ok tt) → Fits job printed →
     OnOk answer (Appends before.out.held after.out.held (printed ++ closing job.command job.passes)) →
     TookPrefix before.out.held after.out.held (printed ++ closing job.command job.passes) → IfErr answer IsOutFault → Ends job before after answer
-written_ends job before after printed (Ok done) e same owed fits all some is = wrote_all job before after printed e same owed fits all
-written_ends job before after printed (Err f) e same owed fits all some is =
+written_ends job before after printed (Ok done) e same owed judges fits all some is =
+    wrote_all job before after printed (Ok tt) e same owed judges fits all
+written_ends job before after printed (Err f) e same owed judges fits all some is =
     out_ends job before after f is (wrote_prefix job before after printed e same owed fits some)
 
 out_other : (f : Fault) → IsOutFault f → IsOther f
@@ -196,7 +205,7 @@ written_not (Ok done) is = record { not_usage = λ e. cc; not_file = λ e. cc; n
 written_not (Err f) is =
     record { not_usage = not_usage_of f (out_other f is); not_file = not_file_of f (out_other f is); not_input = out_input f is }
 
-late_fault : (f : Fault) → IsOutFault f → IsEarly (fault_status f) → ⊥
+pub late_fault : (f : Fault) → IsOutFault f → IsEarly (fault_status f) → ⊥
 late_fault f (inl e) h = subst (λ v. IsEarly (fault_status v)) e h
 late_fault f (inr e) h = subst (λ v. IsEarly (fault_status v)) e h
 
@@ -213,12 +222,12 @@ printed_unwritten Same (Err f) (inl out) same h = absurd (late_fault f out h)
 printed_unwritten Same (Err f) (inr long) same h = same (ap failed long)
 
 fitted_answers : (c : Command) (given last : List Told) (files : List (List ℕ)) (printed bytes : List ℕ) (input : SourceSeen) (old new : SinkSeen)
-    (answer : Result (Unit {0}) Fault) → reads_input c ≡ false →
+    (answer : Result (Unit {0}) Fault) → reads_input c ≡ false → Judges c files printed (Ok tt) →
     ArePassed (calls_passes c) given last → Owes c files given last [] printed → bytes ≡ printed ++ closing c last →
     IsWithin (output_most c (edition_for files)) (length bytes) →
     OnOk answer (Appends old.held new.held bytes) → TookPrefix old.held new.held bytes → IfErr answer IsOutFault →
     Counts (answer ≡ Err fault.Output) old.faults new.faults → AnswersOn c given last files (streams input old) (streams input new) answer
-fitted_answers c given last files printed bytes input old new answer e p owed is fits all some fault count =
+fitted_answers c given last files printed bytes input old new answer e judges p owed is fits all some fault count =
     let fits_is : IsWithin (output_most c (edition_for files)) (length (printed ++ closing c last)) =
     subst (λ v. IsWithin (output_most c (edition_for files)) (length v)) is fits in
     let all_is : OnOk answer (Appends old.held new.held (printed ++ closing c last)) = subst (λ v. OnOk answer (Appends old.held new.held v)) is all in
@@ -227,7 +236,7 @@ fitted_answers c given last files printed bytes input old new answer e p owed is
       passed = p;
       spared = λ f r. absurd (owed_accepted c files given last [] printed owed f r);
       ends = written_ends (record { command = c; files = files; given = given; passes = last }) (streams input old) (streams input new) printed answer e refl
-          owed fits_is all_is some_is fault;
+          owed judges fits_is all_is some_is fault;
       sparing = nothing_read (input_most files) input;
       input = no_fault input.faults input.faults never.not_input refl;
       out = count;
@@ -237,12 +246,12 @@ fitted_answers c given last files printed bytes input old new answer e p owed is
 
 -- a command whose output has no limit
 pub written_answers : (c : Command) (given last : List Told) (files : List (List ℕ)) (printed bytes : List ℕ) (input : SourceSeen) (old new : SinkSeen)
-    (answer : Result (Unit {0}) Fault) → reads_input c ≡ false → ((edition : Edition) → output_most c edition ≡ None) →
+    (answer : Result (Unit {0}) Fault) → reads_input c ≡ false → Judges c files printed (Ok tt) → ((edition : Edition) → output_most c edition ≡ None) →
     ArePassed (calls_passes c) given last → Owes c files given last [] printed → bytes ≡ printed ++ closing c last →
     OnOk answer (Appends old.held new.held bytes) → TookPrefix old.held new.held bytes → IfErr answer IsOutFault →
     Counts (answer ≡ Err fault.Output) old.faults new.faults → AnswersOn c given last files (streams input old) (streams input new) answer
-written_answers c given last files printed bytes input old new answer e unlimited p owed is all some fault count =
-    fitted_answers c given last files printed bytes input old new answer e p owed is
+written_answers c given last files printed bytes input old new answer e judges unlimited p owed is all some fault count =
+    fitted_answers c given last files printed bytes input old new answer e judges p owed is
     (subst (λ most. IsWithin most (length bytes)) (sym (unlimited (edition_for files))) tt) all some fault count
 
 -- what is owed is past the limit of what is written: nothing is
@@ -259,23 +268,125 @@ not_both (Some most) count few many = omega (arith, few, many)
 
 -- a text that is written where it is within the limit
 pub printed_answers : (c : Command) (given last : List Told) (files : List (List ℕ)) (printed bytes : List ℕ) (input : SourceSeen) (old new : SinkSeen)
-    (answer : Result (Unit {0}) Fault) → reads_input c ≡ false →
+    (answer : Result (Unit {0}) Fault) → reads_input c ≡ false → Judges c files printed (Ok tt) →
     ArePassed (calls_passes c) given last → Owes c files given last [] printed → bytes ≡ printed ++ closing c last →
     (answer ≡ Err fault.OutputTooLong) ⊎ IsWithin (output_most c (edition_for files)) (length bytes) →
     (answer ≡ Err fault.OutputTooLong → IsPast (output_most c (edition_for files)) (length bytes)) → (answer ≡ Err fault.OutputTooLong → new ≡ old) →
     OnOk answer (Appends old.held new.held bytes) → TookPrefix old.held new.held bytes →
     IfErr answer (λ f. IsOutFault f ⊎ (f ≡ fault.OutputTooLong)) →
     Counts (answer ≡ Err fault.Output) old.faults new.faults → AnswersOn c given last files (streams input old) (streams input new) answer
-printed_answers c given last files printed bytes input old new answer e p owed is (inl long) past same all some only count =
+printed_answers c given last files printed bytes input old new answer e judges p owed is (inl long) past same all some only count =
     subst (λ a. AnswersOn c given last files (streams input old) (streams input new) a) (sym long)
     (subst (λ o. AnswersOn c given last files (streams input old) (streams input o) (Err fault.OutputTooLong)) (sym (same long))
     (overfull_answers c given last files printed bytes (streams input old) p owed is (past long)))
-printed_answers c given last files printed bytes input old new (Ok done) e p owed is (inr few) past same all some only count =
-    fitted_answers c given last files printed bytes input old new (Ok done) e p owed is few all some tt count
-printed_answers c given last files printed bytes input old new (Err f) e p owed is (inr few) past same all some (inl out) count =
-    fitted_answers c given last files printed bytes input old new (Err f) e p owed is few all some out count
-printed_answers c given last files printed bytes input old new (Err f) e p owed is (inr few) past same all some (inr long) count =
+printed_answers c given last files printed bytes input old new (Ok done) e judges p owed is (inr few) past same all some only count =
+    fitted_answers c given last files printed bytes input old new (Ok done) e judges p owed is few all some tt count
+printed_answers c given last files printed bytes input old new (Err f) e judges p owed is (inr few) past same all some (inl out) count =
+    fitted_answers c given last files printed bytes input old new (Err f) e judges p owed is few all some out count
+printed_answers c given last files printed bytes input old new (Err f) e judges p owed is (inr few) past same all some (inr long) count =
     absurd (not_both (output_most c (edition_for files)) (length bytes) few (past (ap failed long)))
+
+-- ---- a strict check, all of whose lines were written
+
+-- answers of a strict check that are no, or undecided
+abbrev IsUnmet : Fault → Type 0
+IsUnmet (fault.AnswersNo n) = Unit {0}
+IsUnmet (fault.AnswersUndecided n) = Unit {0}
+IsUnmet f = ⊥
+
+unmet_still : (f : Fault) → IsUnmet f → IsStill f
+unmet_still (fault.AnswersNo n) h = tt
+unmet_still (fault.AnswersUndecided n) h = tt
+unmet_still f h = absurd h
+
+unmet_ends : (job : Job) (before after : Streams) (f : Fault) → IsUnmet f → IsDone job before after (Err f) → Ends job before after (Err f)
+unmet_ends job before after (fault.AnswersNo n) h d = d
+unmet_ends job before after (fault.AnswersUndecided n) h d = d
+unmet_ends job before after f h d = absurd h
+
+pub unmet_answers : (c : Command) (given last : List Told) (files : List (List ℕ)) (printed bytes : List ℕ) (input : SourceSeen) (old new : SinkSeen)
+    (f : Fault) → IsUnmet f → reads_input c ≡ false → ((edition : Edition) → output_most c edition ≡ None) →
+    ArePassed (calls_passes c) given last → Owes c files given last [] printed → Judges c files printed (Err f) → bytes ≡ printed ++ closing c last →
+    Appends old.held new.held bytes → new.faults ≡ old.faults → AnswersOn c given last files (streams input old) (streams input new) (Err f)
+unmet_answers c given last files printed bytes input old new f unmet e unlimited p owed judges is all same =
+    let job : Job = record { command = c; files = files; given = given; passes = last } in
+    let still = unmet_still f unmet in
+    let fits = subst (λ most. IsWithin most (length (printed ++ closing c last))) (sym (unlimited (edition_for files))) tt in
+    let all_is = subst (Appends old.held new.held) is all in record {
+      passed = p;
+      spared = λ g r. absurd (owed_accepted c files given last [] printed owed g r);
+      ends = unmet_ends job (streams input old) (streams input new) f unmet
+          (wrote_all job (streams input old) (streams input new) printed (Err f) e refl owed judges fits all_is);
+      sparing = nothing_read (input_most files) input;
+      input = no_fault input.faults input.faults (not_input_of f still) refl;
+      out = no_fault old.faults new.faults (not_output_of f still) same;
+      not_usage = not_usage_of f (still_other f still);
+      not_file = not_file_of f (still_other f still);
+    }
+
+-- a prefix of it was written, by a command whose output has no limit
+part_answers : (c : Command) (given last : List Told) (files : List (List ℕ)) (printed bytes : List ℕ) (input : SourceSeen) (old new : SinkSeen) (f : Fault) →
+    reads_input c ≡ false → ((edition : Edition) → output_most c edition ≡ None) → ArePassed (calls_passes c) given last →
+    Owes c files given last [] printed → bytes ≡ printed ++ closing c last → TookPrefix old.held new.held bytes → IsOutFault f →
+    Counts (failed f ≡ Err fault.Output) old.faults new.faults → AnswersOn c given last files (streams input old) (streams input new) (Err f)
+part_answers c given last files printed bytes input old new f e unlimited p owed is some fault count =
+    let job : Job = record { command = c; files = files; given = given; passes = last } in
+    let fits = subst (λ most. IsWithin most (length (printed ++ closing c last))) (sym (unlimited (edition_for files))) tt in
+    let some_is = subst (TookPrefix old.held new.held) is some in
+    let never = written_not (Err f) fault in record {
+      passed = p;
+      spared = λ g r. absurd (owed_accepted c files given last [] printed owed g r);
+      ends = out_ends job (streams input old) (streams input new) f fault
+          (wrote_prefix job (streams input old) (streams input new) printed e refl owed fits some_is);
+      sparing = nothing_read (input_most files) input;
+      input = no_fault input.faults input.faults never.not_input refl;
+      out = count;
+      not_usage = never.not_usage;
+      not_file = never.not_file;
+    }
+
+-- how `check` ends where `out` took a prefix of its lines
+pub part_checked : (strictness : Strictness) (file : List ℕ) (given : List Told) (source printed : List ℕ) (a : Answered) (input : SourceSeen)
+    (old new : SinkSeen) (f : Fault) → AreSourceChecks source printed a → TookPrefix old.held new.held printed → IsOutFault f →
+    Counts (failed f ≡ Err fault.Output) old.faults new.faults →
+    AnswersOn (check strictness file) given given (source ∷ []) (streams input old) (streams input new) (Err f)
+part_checked strictness file given source printed a input old new f checks some fault count =
+    part_answers (check strictness file) given given (source ∷ []) printed printed input old new f refl (λ edition. refl) refl (a, checks)
+    (sym (append-nil printed)) some fault count
+
+-- how `check` ends where all its lines were written
+module _ (strictness : Strictness) (file : List ℕ) (given : List Told) (source printed : List ℕ) (a : Answered) (input : SourceSeen) (old new : SinkSeen)
+    (checks : AreSourceChecks source printed a) (all : Appends old.held new.held printed) (same : new.faults ≡ old.faults) where
+  abbrev unmet : Unmet
+  unmet = unmet_for strictness a
+
+  abbrev ends_by : Bool → Bool → Result (Unit {0}) Fault
+  ends_by b c = if b then Err (fault.AnswersNo unmet.no) else if c then Err (fault.AnswersUndecided unmet.undecided) else Ok tt
+
+  ended_so : (b : Bool) → nat_lt 0 unmet.no ≡ b → (c : Bool) → nat_lt 0 unmet.undecided ≡ c →
+      AnswersOn (check strictness file) given given (source ∷ []) (streams input old) (streams input new) (ends_by b c)
+  ended_so true e c f =
+      unmet_answers (check strictness file) given given (source ∷ []) printed printed input old new (fault.AnswersNo unmet.no) tt refl (λ edition. refl) refl
+      (a, checks) (a, checks, sym (ap (λ b. ends_by b (nat_lt 0 unmet.undecided)) e)) (sym (append-nil printed)) all same
+  ended_so false e true f =
+      unmet_answers (check strictness file) given given (source ∷ []) printed printed input old new (fault.AnswersUndecided unmet.undecided) tt refl
+      (λ edition. refl) refl (a, checks) (a, checks, sym (ap₂ ends_by e f)) (sym (append-nil printed)) all same
+  ended_so false e false f =
+      written_answers (check strictness file) given given (source ∷ []) printed printed input old new (Ok tt) refl (a, checks, sym (ap₂ ends_by e f))
+      (λ edition. refl) refl (a, checks) (sym (append-nil printed)) all (printed, [], sym (append-nil printed), all) tt
+      (no_fault old.faults new.faults (λ k. cc k) same)
+
+  pub ended_answers : AnswersOn (check strictness file) given given (source ∷ []) (streams input old) (streams input new) (judged strictness a)
+  ended_answers = ended_so (nat_lt 0 unmet.no) refl (nat_lt 0 unmet.undecided) refl
+
+-- no such end is early
+pub ended_late : (u : Unmet) → IsEarly (status_of (end_of u)) → ⊥
+ended_late u h = go (nat_lt 0 u.no) (nat_lt 0 u.undecided) h
+  where
+    go : (b c : Bool) → IsEarly (status_of (if b then Err (fault.AnswersNo u.no) else if c then Err (fault.AnswersUndecided u.undecided) else Ok tt)) → ⊥
+    go true c h = h
+    go false true h = h
+    go false false h = h
 
 -- ---- what answers the input
 
@@ -283,6 +394,11 @@ printed_answers c given last files printed bytes input old new (Err f) e p owed 
 record AnswersBy (job : Job) (who : Replier) : Type 0 where
   reads : reads_input job.command ≡ true
   owes : (ls : List (List ℕ)) (replies : List ℕ) → AreReplies who ls replies → Owes job.command job.files job.given job.passes ls replies
+
+-- such a command is done
+reads_done : (c : Command) (files : List (List ℕ)) (text : List ℕ) → reads_input c ≡ true → Judges c files text (Ok tt)
+reads_done (check strictness file) files text e = cc
+reads_done c files text e = refl
 
 -- what such a command writes has no limit
 reads_unlimited : (c : Command) (edition : Edition) (count : ℕ) → reads_input c ≡ true → IsWithin (output_most c edition) count
@@ -379,6 +495,7 @@ through_ends job before after who end answer by is (whole mid r e took) =
       r.runs.1,
       wrote_by job before after Appends r.front (lines r.front) (closing job.command job.passes) text who by r.read r.runs.2.1
           (Appends-trans before.out.held mid after.out.held text (closing job.command job.passes) r.runs.2.2 (subst (Appends mid after.out.held) is took)),
+      reads_done job.command job.files _ by.reads,
     )
 
 runs_other : (who : Replier) (most : Option ℕ) (left still_left old new : Option (List ℕ)) (f : Fault) → RunsOn who most left still_left old new (Err f) →

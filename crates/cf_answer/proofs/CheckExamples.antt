@@ -1,8 +1,9 @@
 -- Worked examples of the lines of `check`.
-use Rattle.std.proofs.Common.{◌≡◌, ap, refl, ℕ, zero, suc, pos, negsuc, List, [], ◌∷◌, Vec, Global, arith, codes}
+use Rattle.std.proofs.Common.{◌≡◌, ap, refl, Ok, Err, ℕ, zero, suc, pos, negsuc, List, [], ◌∷◌, Vec, Global, arith, codes}
 use Rattle.std.specs.Fmt.{digits}
 use Rattle.std.specs.Prelude.{Contains}
 use Rattle.cf_tree.specs.declared.base.Base.TheVariants.{Int, Set}
+use Rattle.cf_tree.specs.declared.base.Edition.TheVariants.{Two, Three}
 use Rattle.cf_tree.specs.declared.base.Order.TheVariants.{Eq}
 use Rattle.cf_tree.specs.RelTree.{term_lit, term_var, term_add, term_mul, set_var, rel_false, rel_compare, rel_subset, rel_and}
 use Rattle.cf_linear.specs.declared.refusal.LimitKind.TheVariants as kind
@@ -19,6 +20,11 @@ use Rattle.cf_warn.specs.declared.coverage.Cover.TheVariants as cover
 use Rattle.cf_warn.specs.Covers.{IsCover}
 use Rattle.cf_warn.specs.Verdicts.{IsExistence, IsUniqueness}
 use Rattle.cf_answer.specs.Checks.{existence_line, uniqueness_line, cover_line, IsOwn, AreLines, of_choose, of_arm, of_match}
+use Rattle.cf_answer.specs.Texts.{fault_line}
+use Rattle.cf_answer.specs.Unmet.{answered, judged, nothing_answered, nothing_unmet, one_no, one_undecided, unmet_for, with_answered}
+use Rattle.cf_answer.specs.declared.fault.Fault.TheVariants as fault
+use Rattle.cf_answer.specs.declared.unmet.Answered.{Answered}
+use Rattle.cf_words.specs.declared.command.Strictness.TheVariants as strictness
 
 -- choose 7, where p, s and a are in scope, and the relation speaks of a and s
 abbrev some_choose : ChooseTree
@@ -143,16 +149,66 @@ of_no_arm = record { number = 1; names = codes "a" ∷ codes "match" ∷ []; sco
 
 two_lines : IsOwn one_match 7 → IsExistence some_choose.scope some_choose.outputs some_choose.relation existence.Always →
     IsUniqueness some_choose.scope some_choose.outputs 2 some_choose.relation uniqueness.Unique →
-    AreLines one_match [] some_choose (codes "choose 7: outputs always\nchoose 7: outputs unique\n")
+    AreLines Two one_match [] some_choose (codes "choose 7: outputs always\nchoose 7: outputs unique\n") (answered nothing_unmet nothing_unmet)
 unfolding digits
 two_lines own e u = of_choose own refl existence.Always uniqueness.Unique e u
 
 one_line_of_an_arm : IsUniqueness of_first_arm.scope of_first_arm.outputs 1 of_first_arm.relation (uniqueness.Undecided Overflow) →
-    AreLines one_match [] of_first_arm (codes "choose 2: uniqueness undecided: overflow\n")
+    AreLines Two one_match [] of_first_arm (codes "choose 2: uniqueness undecided: overflow\n") (answered nothing_unmet one_undecided)
 unfolding digits
 one_line_of_an_arm u = of_arm _ there (0, omega arith, refl) (uniqueness.Undecided Overflow) u
 
 one_line_of_a_match : IsCover (Residue (pos 2) (pos 0) ∷ Point (pos 3) ∷ []) (cover.Misses (pos 5)) →
-    AreLines one_match [] of_no_arm (codes "match 1: misses 5\n")
+    AreLines Two one_match [] of_no_arm (codes "match 1: misses 5\n") (answered one_no nothing_unmet)
 unfolding digits
 one_line_of_a_match c = of_match _ there refl (cover.Misses (pos 5)) c
+
+-- in edition 3 nothing is said of how long it was asked
+undecided_arm_of_three : AreLines Three one_match [] of_first_arm (codes "choose 2: uniqueness undecided: overflow\n") (answered nothing_unmet one_undecided)
+unfolding digits
+undecided_arm_of_three = of_arm _ there (0, omega arith, refl) (uniqueness.Undecided Overflow) tt
+
+undecided_match_of_three : AreLines Three one_match [] of_no_arm (codes "match 1: coverage undecided: overflow\n") (answered one_undecided nothing_unmet)
+unfolding digits
+undecided_match_of_three = of_match _ there refl (cover.Undecided Overflow) tt
+
+-- ---- a strict check
+-- two noes on existence and one doubt; a no and two doubts on uniqueness
+abbrev some_unmet : Answered
+some_unmet =
+    with_answered (answered one_no one_undecided)
+    (with_answered (answered one_no one_no) (with_answered (answered one_undecided one_undecided) nothing_answered))
+
+abbrev one_doubt : Answered
+one_doubt = answered nothing_unmet one_undecided
+
+counted : some_unmet ≡ record { existence = record { no = 2; undecided = 1 }; uniqueness = record { no = 1; undecided = 2 } }
+counted = refl
+
+asked_of_existence : unmet_for strictness.Existing some_unmet ≡ record { no = 2; undecided = 1 }
+asked_of_existence = refl
+
+asked_of_both : unmet_for strictness.Unique some_unmet ≡ record { no = 3; undecided = 3 }
+asked_of_both = refl
+
+no_before_undecided : (judged strictness.Existing some_unmet ≡ Err (fault.AnswersNo 2)) × (judged strictness.Unique some_unmet ≡ Err (fault.AnswersNo 3))
+no_before_undecided = (refl, refl)
+
+undecided_uniqueness : (judged strictness.Existing one_doubt ≡ Ok tt) × (judged strictness.Unique one_doubt ≡ Err (fault.AnswersUndecided 1))
+undecided_uniqueness = (refl, refl)
+
+not_strict : judged strictness.Told some_unmet ≡ Ok tt
+not_strict = refl
+
+all_yes : (judged strictness.Existing nothing_answered ≡ Ok tt) × (judged strictness.Unique nothing_answered ≡ Ok tt)
+all_yes = (refl, refl)
+
+one_answer : (fault_line (fault.AnswersNo 1) ≡ codes "check: 1 answer is no\n") ×
+    (fault_line (fault.AnswersUndecided 1) ≡ codes "check: 1 answer is undecided\n")
+unfolding digits
+one_answer = (refl, refl)
+
+more_answers : (fault_line (fault.AnswersNo 2) ≡ codes "check: 2 answers are no\n")
+    × (fault_line (fault.AnswersUndecided 12) ≡ codes "check: 12 answers are undecided\n")
+unfolding digits
+more_answers = (refl, refl)

@@ -1,4 +1,4 @@
--- How `run` ends on an input of two lines, with each answer: what was read, and what `out` took.
+-- How `run` ends on an input of two lines, with each answer: what was read, and what `out` took; and how a strict `check` ends.
 use Rattle.std.proofs.Common.{◌≡◌, inl, inr, ◌<◌, ◌≤◌, ◌∙◌, sym, ap, subst, refl, ℕ, true, false, List, [], ◌∷◌, ◌++◌, length, Some, None, append-nil, arith, codes}
 use Rattle.std.specs.Prelude.{take, Ok, Err}
 use Rattle.std.specs.Fmt.{digits}
@@ -6,14 +6,17 @@ use Rattle.cf_io.specs.Limits.{input_limit, IsWithin, IsPast}
 use Rattle.cf_io.specs.Lines.{lines, ended}
 use Rattle.cf_io.specs.Seen.{SourceSeen, SinkSeen}
 use Rattle.cf_pass.specs.Passes.{Told}
-use Rattle.cf_words.specs.Commands.{run, compile}
+use Rattle.cf_words.specs.Commands.{check, run, compile}
 use Rattle.cf_words.specs.declared.command.ReplyForm.{ReplyForm}
+use Rattle.cf_words.specs.declared.command.Strictness.{Strictness}
+use Rattle.cf_words.specs.declared.command.Strictness.TheVariants.{Existing, Unique}
 use Rattle.cf_answer.specs.Ends.{Job, Reads, IsReadUp, Ends}
 use Rattle.cf_answer.specs.Commands.{output_most}
 use Rattle.cf_answer.specs.Limits.{edition_for, input_most, written_limit}
 use Rattle.cf_answer.specs.Outside.{Streams, streams}
-use Rattle.cf_answer.specs.Owed.{Owes}
+use Rattle.cf_answer.specs.Owed.{AreSourceChecks, Owes}
 use Rattle.cf_answer.specs.Refusals.{Refuses}
+use Rattle.cf_answer.specs.Unmet.{answered, nothing_unmet, one_no, one_undecided}
 use Rattle.cf_answer.specs.declared.fault.Fault.TheVariants as fault
 
 abbrev form : ReplyForm
@@ -81,7 +84,7 @@ all-read front e = sym (append-nil front) ∙ sym e
 -- ---- done: the replies, and behind them the tallies
 done : OwesRun two (codes "3\n4\n") → Ends job before (after [] (codes "x3\n4\n# fold 12\n")) (Ok tt)
 unfolding digits
-done owed = (codes "1\n2", refl, short (codes "1\n2") (omega arith), record { text = codes "3\n4\n"; read = refl; owed = owed; fits = tt; took = refl })
+done owed = (codes "1\n2", refl, short (codes "1\n2") (omega arith), record { text = codes "3\n4\n"; read = refl; owed = owed; fits = tt; took = refl }, refl)
 
 -- so what stands there is owed for both lines
 tail_of : (n : ℕ) (xs ys : List ℕ) → ◌≡◌ {A = List ℕ} (n ∷ xs) (n ∷ ys) → xs ≡ ys
@@ -108,6 +111,7 @@ done-at_the_limit bytes e owed = (
   refl,
   short bytes (omega (arith, e)),
   record { text = codes "3\n"; read = sym (append-nil bytes); owed = owed; fits = tt; took = refl },
+  refl,
 )
 
 done-past_the_limit : (bytes held : List ℕ) → length bytes ≡ 16777217 → Ends job (streams (input bytes) (out [])) (after [] held) (Ok tt) → ⊥
@@ -251,7 +255,8 @@ without-limit = refl
 done-without_limit : (bytes : List ℕ) → length bytes ≡ 16777217 →
     Owes unlimited.command unlimited.files unlimited.given unlimited.passes (lines bytes) (codes "3\n") →
     Ends unlimited (streams (input bytes) (out [])) (after [] (codes "3\n")) (Ok tt)
-done-without_limit bytes e owed = (bytes, refl, tt, record { text = codes "3\n"; read = sym (append-nil bytes); owed = owed; fits = tt; took = refl })
+done-without_limit bytes e owed =
+    (bytes, refl, tt, record { text = codes "3\n"; read = sym (append-nil bytes); owed = owed; fits = tt; took = refl }, refl)
 
 never-too_long : (left held : List ℕ) → Ends unlimited before (after left held) (Err fault.InputTooLong) → ⊥
 never-too_long left held h = h.1
@@ -276,3 +281,44 @@ output-changed_though_too_long held h = h.3
 -- language 2 has no such end
 never-overfull : (late : Streams) → Ends compiling before late (Err fault.OutputTooLong) → ⊥
 never-overfull late h = h.2
+
+-- ---- a strict check: all its lines are written, and it ends by what they answer
+abbrev checking : Strictness → Job
+checking strictness = record { command = check strictness (codes "a"); files = codes "source" ∷ []; given = passes; passes = passes }
+
+abbrev written : Streams
+written = after (codes "1\n2") (codes "xlines\n")
+
+check-no : AreSourceChecks (codes "source") (codes "lines\n") (answered one_no nothing_unmet) →
+    Ends (checking Existing) before written (Err (fault.AnswersNo 1))
+check-no checks = (
+  [],
+  tt,
+  short [] (omega arith),
+  record { text = codes "lines\n"; read = (refl, refl); owed = (answered one_no nothing_unmet, checks); fits = tt; took = refl },
+  (answered one_no nothing_unmet, checks, refl),
+)
+
+-- what is undecided of uniqueness counts only where it is asked for
+check-done : AreSourceChecks (codes "source") (codes "lines\n") (answered nothing_unmet one_undecided) → Ends (checking Existing) before written (Ok tt)
+check-done checks = (
+  [],
+  tt,
+  short [] (omega arith),
+  record { text = codes "lines\n"; read = (refl, refl); owed = (answered nothing_unmet one_undecided, checks); fits = tt; took = refl },
+  (answered nothing_unmet one_undecided, checks, refl),
+)
+
+check-undecided : AreSourceChecks (codes "source") (codes "lines\n") (answered nothing_unmet one_undecided) →
+    Ends (checking Unique) before written (Err (fault.AnswersUndecided 1))
+check-undecided checks = (
+  [],
+  tt,
+  short [] (omega arith),
+  record { text = codes "lines\n"; read = (refl, refl); owed = (answered nothing_unmet one_undecided, checks); fits = tt; took = refl },
+  (answered nothing_unmet one_undecided, checks, refl),
+)
+
+-- no other command ends so
+run-no : (late : Streams) → Ends job before late (Err (fault.AnswersNo 1)) → ⊥
+run-no late h = cc (h.4)

@@ -13,9 +13,10 @@ use Rattle.cf_form.specs.FormAnswers.{IsUnformed}
 use Rattle.cf_form.specs.declared.fault.FormFault.{FormFault}
 use Rattle.cf_form.specs.declared.fault.FormFault.TheVariants as form
 use Rattle.cf_target.specs.Spelling.{TargetTree}
-use Rattle.cf_words.specs.Commands.{Command, compile, run, pre, check, exec, prove, verify, gen}
+use Rattle.cf_print.specs.declared.language.Language.{Language}
+use Rattle.cf_words.specs.Commands.{Command, compile, run, pre, check, exec, prove, emit, verify, gen}
 use Rattle.cf_answer.specs.Limits.{TextKind}
-use Rattle.cf_answer.specs.Refusals.{Causes, too_long, odd_byte, large_number, no_tree, bad_tree, IsBroken, broken, wide, form_fault, IsBadProgram, unruly, refused, IsBadRun, bad, broken_late, IsBadTarget, untyped, IsRefusedSource, IsRefusedRun, IsRefusedTarget, IsUnverified, bad_source, bad_steps, bad_blocks, Refuses}
+use Rattle.cf_answer.specs.Refusals.{Causes, too_long, odd_byte, large_number, no_tree, bad_tree, IsBroken, broken, wide, form_fault, IsBadProgram, unruly, refused, IsBadRun, bad, broken_late, IsBadEmission, bad_program, no_sets, IsBadTarget, untyped, IsRefusedSource, IsRefusedRun, IsRefusedEmission, IsRefusedTarget, IsUnverified, bad_source, bad_steps, bad_blocks, Refuses}
 use Rattle.cf_answer.specs.declared.fault.Fault.{Fault}
 use Rattle.cf_answer.specs.declared.fault.Fault.TheVariants as fault
 
@@ -32,6 +33,7 @@ IsTextFault (fault.Rule e) = Unit {0}
 IsTextFault (fault.Choose n r) = Unit {0}
 IsTextFault (fault.Weight f w) = Unit {0}
 IsTextFault (fault.Depth f d) = Unit {0}
+IsTextFault fault.NoSetsInC = Unit {0}
 IsTextFault fault.BadTarget = Unit {0}
 IsTextFault (fault.Steps e) = Unit {0}
 IsTextFault (fault.Rejected n i j w) = Unit {0}
@@ -64,6 +66,10 @@ run_fault : (edition : Edition) (program : List RawItemTree) (f : Fault) → IsB
 run_fault edition program f (bad g b other) = program_fault edition program g b
 run_fault edition program f (broken_late p g plain h) = broken_fault edition Late program g h
 
+emission_fault : (language : Language) (edition : Edition) (program : List RawItemTree) (f : Fault) → IsBadEmission language edition program f → IsTextFault f
+emission_fault language edition program f (bad_program g b) = program_fault edition program g b
+emission_fault language edition program f (no_sets typed is none lacks) = tt
+
 target_fault : (t : TargetTree) (f : Fault) → IsBadTarget t f → IsTextFault f
 target_fault t f (untyped h) = tt
 
@@ -72,6 +78,9 @@ source_text text f h = caused _ _ _ _ (program_fault (edition_of text)) text f h
 
 run_text : (text : List ℕ) (f : Fault) → IsRefusedRun text f → IsTextFault f
 run_text text f h = caused _ _ _ _ (run_fault (edition_of text)) text f h
+
+emission_text : (language : Language) (text : List ℕ) (f : Fault) → IsRefusedEmission language text f → IsTextFault f
+emission_text language text f h = caused _ _ _ _ (emission_fault language (edition_of text)) text f h
 
 target_text : (text : List ℕ) (f : Fault) → IsRefusedTarget text f → IsTextFault f
 target_text text f h = caused _ _ _ _ target_fault text f h
@@ -85,9 +94,10 @@ pub refused_fault : (c : Command) (files : List (List ℕ)) (f : Fault) → Refu
 refused_fault (compile flags name) (text ∷ []) f h = source_text text f h
 refused_fault (run flags form name) (text ∷ []) f h = run_text text f h
 refused_fault (pre name) (text ∷ []) f h = source_text text f h
-refused_fault (check name) (text ∷ []) f h = source_text text f h
+refused_fault (check strictness name) (text ∷ []) f h = source_text text f h
 refused_fault (exec form name) (text ∷ []) f h = target_text text f h
 refused_fault (prove name) (text ∷ []) f h = source_text text f h
+refused_fault (emit e name) (text ∷ []) f h = emission_text e.language text f h
 refused_fault (verify name other) (source ∷ steps ∷ []) f h = verify_fault source steps f h
 refused_fault (gen n) [] f h = source_text (gen_source n) f h
 refused_fault c files f h = absurd h

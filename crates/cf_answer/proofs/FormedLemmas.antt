@@ -9,6 +9,9 @@ use Rattle.cf_program.specs.Typed.{typed_tree}
 use Rattle.cf_program.specs.TypedProgram.{IsTypedProgram}
 use Rattle.cf_program.specs.declared.linearity.Linearity.TheVariants.{Plain}
 use Rattle.cf_form.specs.declared.formed.FormedParts.{FormedParts}
+use Rattle.cf_form.specs.Told.{HoldConditions}
+use Rattle.cf_form.specs.ToldView.{told_choose}
+use Rattle.cf_form.proofs.ConditionLaws.{conditions_hold}
 use Rattle.cf_match.specs.Matches.{all_matches, match_tree}
 use Rattle.cf_match.specs.declared.lowered.LoweredParts.{LoweredParts}
 use Rattle.cf_answer.specs.Sources.{IsTypedBy, IsLoweredSource}
@@ -25,3 +28,7 @@ formed_lowered text f l edition h typed defs matches = record {
   matches = matches;
   classes = told_classes (map def_tree f.typed.defs.items) f.typed.main l.matches.items typed matches;
 }
+
+-- the conditions that are told are part of their relations
+pub conditions_held : (text : List ℕ) (f : FormedParts) → IsFormedSource text f → HoldConditions (map told_choose f.chooses.items)
+conditions_held text f h = subst HoldConditions (sym h.2.2.1) (conditions_hold h.2.0.defs)

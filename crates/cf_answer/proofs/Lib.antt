@@ -6,6 +6,7 @@ mod BlockExamples
 pub mod BlockLemmas
 mod BranchExamples
 pub mod BranchLemmas
+pub mod BranchTellLemmas
 pub mod CauseLemmas
 mod CertificateExamples
 pub mod CertificateLemmas
@@ -14,6 +15,8 @@ pub mod CheckLemmas
 mod CommandExamples
 pub mod CountLemmas
 mod DoesExamples
+mod EmitExamples
+pub mod EmitLemmas
 mod EndExamples
 pub mod EndedLemmas
 mod Examples
@@ -22,6 +25,7 @@ pub mod FileLemmas
 mod FormExamples
 pub mod FormedLemmas
 pub mod HeadLemmas
+pub mod HoldingLemmas
 mod LateExamples
 pub mod LateLemmas
 mod LimitExamples
@@ -30,6 +34,7 @@ pub mod LoweredLemmas
 pub mod MatchClassLemmas
 mod NameExamples
 pub mod NameLemmas
+pub mod NamedLemmas
 pub mod OriginLemmas
 pub mod OutcomeLemmas
 mod OutsideExamples
@@ -57,6 +62,8 @@ pub mod StepLemmas
 mod SumExamples
 pub mod SumLemmas
 pub mod TargetLemmas
+mod TellExamples
+pub mod TellLemmas
 mod TextExamples
 pub mod TextLemmas
 mod ToldExamples

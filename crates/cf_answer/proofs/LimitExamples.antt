@@ -1,6 +1,7 @@
 -- The limit of a source text as a number.
 use Rattle.std.proofs.Common.{◌≡◌, true, false, Some, None, codes, refl}
-use Rattle.cf_words.specs.Commands.{compile, run, pre, exec, prove, verify}
+use Rattle.cf_print.specs.declared.language.Language.TheVariants.{C}
+use Rattle.cf_words.specs.Commands.{Emitting, compile, run, pre, exec, prove, emit, verify}
 use Rattle.cf_words.specs.declared.command.Flags.{Flags}
 use Rattle.cf_words.specs.declared.command.ReplyForm.{ReplyForm}
 use Rattle.cf_tree.specs.declared.base.Edition.TheVariants.{Two, Three}
@@ -34,11 +35,17 @@ form = record { key = false; jsonl = false }
 abbrev plain : Flags
 plain = record { plain = true; stats = false }
 
+abbrev in_c : Emitting
+in_c = record { language = C; has_main = false; name = codes "answer" }
+
 -- by whom
 written-by_command : (output_most (compile plain (codes "a")) Three ≡ Some written_limit) × (output_most (compile plain (codes "a")) Two ≡ None)
     × (output_most (prove (codes "a")) Three ≡ Some written_limit) × (output_most (run plain form (codes "a")) Three ≡ None)
     × (output_most (pre (codes "a")) Three ≡ None)
 written-by_command = (refl, refl, refl, refl, refl)
+
+limits-of_emit : (output_most (emit in_c (codes "a")) Three ≡ None) × (text_most (emit in_c (codes "a")) Three ≡ text_limit)
+limits-of_emit = (refl, refl)
 
 taken-by_command : (text_most (run plain form (codes "a")) Three ≡ text_limit) × (text_most (exec form (codes "a")) Two ≡ written_limit)
     × (text_most (verify (codes "a") (codes "b")) Two ≡ text_limit) × (text_most (verify (codes "a") (codes "b")) Three ≡ written_limit)

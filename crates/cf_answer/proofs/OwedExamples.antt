@@ -1,6 +1,6 @@
 -- Worked examples: what each command owes on the texts of its files.
 use Rattle.std.proofs.Common.{◌≡◌, ◌⊎◌, ℕ, ℤ, Bool, true, false, nat_le, List, [], ◌∷◌, length, inl, inr, refl, sym, subst, codes}
-use Rattle.std.specs.Prelude.{negsuc, flat_map}
+use Rattle.std.specs.Prelude.{negsuc, flat_map, Result, Ok}
 use Rattle.std.specs.Fmt.{digits}
 use Rattle.cf_gen.specs.Workload.{gen_source, gen_lines}
 use Rattle.cf_io.specs.Limits.{line_limit}
@@ -24,16 +24,20 @@ use Rattle.cf_pass.specs.Passes.{Told, HaveTurned}
 use Rattle.cf_words.specs.declared.command.Flags.{Flags}
 use Rattle.cf_words.specs.declared.command.ReplyForm.{ReplyForm}
 use Rattle.cf_words.specs.Commands.{compile, run, pre, check, exec, prove, verify, gen, help, version}
+use Rattle.cf_words.specs.declared.command.Strictness.TheVariants as strictness
 use Rattle.cf_answer.specs.About.{help_text}
 use Rattle.cf_answer.specs.Branches.{AreBranched}
 use Rattle.cf_answer.specs.Certificates.{AreProofs, AreVerified, verified_line}
 use Rattle.cf_answer.specs.Forms.{as_text, Form, form_of}
 use Rattle.cf_answer.specs.LateReplies.{AreRunsAllowed}
-use Rattle.cf_answer.specs.Owed.{by_target, by_late, comes_by, IsReplyBy, Replier, AllReplied, AreReplies, ArePicked, IsCompiledBy, OwesRun, compiled, late, IsPrinted, AllWritten, ArePres, AreChecks, IsSum, sum_line, Owes}
+use Rattle.cf_answer.specs.Owed.{by_target, by_late, comes_by, IsReplyBy, Replier, AllReplied, AreReplies, ArePicked, IsCompiledBy, OwesRun, compiled, late, IsPrinted, AllWritten, ArePres, AreChecks, AreSourceChecks, IsSum, sum_line, Owes, Judges}
 use Rattle.cf_answer.specs.Passes.{applied}
 use Rattle.cf_answer.specs.Replies.{too_long, bad_input, comes}
 use Rattle.cf_answer.specs.ResultNames.{AreResultNames}
 use Rattle.cf_answer.specs.Sources.{Compiles, IsTypedSource, AreToldIn, AreToldOf, IsLateSource, IsTypedTarget}
+use Rattle.cf_answer.specs.Unmet.{judged}
+use Rattle.cf_answer.specs.declared.fault.Fault.{Fault}
+use Rattle.cf_answer.specs.declared.unmet.Answered.{Answered}
 
 -- the same is owed
 abbrev Same : Type 0 → Type 0 → Type 0
@@ -54,18 +58,34 @@ module _ (form : ReplyForm) (written : Form) (name other source steps : List ℕ
       ((t : RawTarget) × IsCompiledBy false source given last t × IsPrinted (edition_of source) t text)
   of-plain_compile = (λ h. h, λ h. h)
 
-  of-run : Same (Owes (run flags form name) (source ∷ []) given last ls text) ((names : List (List ℕ)) × AreResultNames source names × OwesRun true (form_of form names) source given last ls text)
+  of-run : Same (Owes (run flags form name) (source ∷ []) given last ls text)
+      ((names : List (List ℕ)) × AreResultNames source names × OwesRun true (form_of form names) source given last ls text)
   of-run = (λ h. h, λ h. h)
 
-  of-plain_run : Same (Owes (run plain form name) (source ∷ []) given last ls text) ((names : List (List ℕ)) × AreResultNames source names × OwesRun false (form_of form names) source given last ls text)
+  of-plain_run : Same (Owes (run plain form name) (source ∷ []) given last ls text)
+      ((names : List (List ℕ)) × AreResultNames source names × OwesRun false (form_of form names) source given last ls text)
   of-plain_run = (λ h. h, λ h. h)
 
   of-pre : Same (Owes (pre name) (source ∷ []) given last ls text) ((cs : List (ChooseTree × Branch)) × AreBranched source cs × ArePres cs text)
   of-pre = (λ h. h, λ h. h)
 
-  of-check : Same (Owes (check name) (source ∷ []) given last ls text)
-      ((told : List ToldChoose) × AreToldOf source told × (typed : TypedTree) × IsTypedSource source typed × AreChecks told typed text)
+  of-check : Same (Owes (check strictness.Told name) (source ∷ []) given last ls text)
+      ((a : Answered) × ((told : List ToldChoose) × AreToldOf source told × (typed : TypedTree) × IsTypedSource source typed
+      × AreChecks (edition_of source) told typed text a))
   of-check = (λ h. h, λ h. h)
+
+  -- a strict check owes the same text
+  of-strict_check : Same (Owes (check strictness.Unique name) (source ∷ []) given last ls text)
+      (Owes (check strictness.Told name) (source ∷ []) given last ls text)
+  of-strict_check = (λ h. h, λ h. h)
+
+  -- and ends by what its lines answer; any other command is done
+  judged-check : (answer : Result (Unit {0}) Fault) → Same (Judges (check strictness.Unique name) (source ∷ []) text answer)
+      ((a : Answered) × AreSourceChecks source text a × (answer ≡ judged strictness.Unique a))
+  judged-check answer = (λ h. h, λ h. h)
+
+  judged-pre : (answer : Result (Unit {0}) Fault) → Same (Judges (pre name) (source ∷ []) text answer) (answer ≡ Ok tt)
+  judged-pre answer = (λ h. h, λ h. h)
 
   of-exec : Same (Owes (exec form name) (source ∷ []) given last ls text)
       ((t : RawTarget) × IsTypedTarget source (target_tree t) × AreReplies (record { by = by_target t; form = form_of form [] }) ls text)
@@ -93,7 +113,7 @@ module _ (form : ReplyForm) (written : Form) (name other source steps : List ℕ
   of-too_few : Owes (verify name other) (source ∷ []) given last ls text → ⊥
   of-too_few h = h
 
-  of-too_many : Owes (check name) (source ∷ steps ∷ []) given last ls text → ⊥
+  of-too_many : Owes (check strictness.Told name) (source ∷ steps ∷ []) given last ls text → ⊥
   of-too_many h = h
 
   of-help_on_a_file : Owes help (source ∷ []) given last ls text → ⊥

@@ -32,6 +32,7 @@ use Rattle.cf_cert.specs.declared.verdict.Why.{Why}
 use Rattle.cf_words.specs.Commands.{compile, run, pre, check, exec, prove, verify, gen, help, version}
 use Rattle.cf_words.specs.declared.command.Flags.{Flags}
 use Rattle.cf_words.specs.declared.command.ReplyForm.{ReplyForm}
+use Rattle.cf_words.specs.declared.command.Strictness.TheVariants as strictness
 use Rattle.cf_answer.specs.Limits.{TextKind, text_limit, written_limit, of_source, of_target, most_of}
 use Rattle.cf_answer.specs.Refusals.{IsBroken, broken, wide, form_fault, CausesOf}
 use Rattle.cf_answer.specs.Refusals.{IsSyntaxPlace, Causes, too_long, odd_byte, large_number, no_tree, bad_tree}
@@ -239,7 +240,7 @@ module _ (flags : Flags) (form : ReplyForm) (name other text more : List ℕ) (n
   Same A B = (A → B) × (B → A)
 
   sources : Same (Refuses (compile flags name) (text ∷ []) f) (IsRefusedSource text f) × Same (Refuses (pre name) (text ∷ []) f) (IsRefusedSource text f)
-      × Same (Refuses (check name) (text ∷ []) f) (IsRefusedSource text f) × Same (Refuses (prove name) (text ∷ []) f) (IsRefusedSource text f)
+      × Same (Refuses (check strictness.Told name) (text ∷ []) f) (IsRefusedSource text f) × Same (Refuses (prove name) (text ∷ []) f) (IsRefusedSource text f)
   sources = (((λ h. h), λ h. h), ((λ h. h), λ h. h), ((λ h. h), λ h. h), ((λ h. h), λ h. h))
 
   runs : Same (Refuses (run flags form name) (text ∷ []) f) (IsRefusedRun text f)

@@ -22,6 +22,7 @@ use Rattle.cf_form.specs.Told.{ToldChoose}
 use Rattle.cf_match.specs.Matches.{MatchTree, all_matches}
 use Rattle.cf_answer.specs.Branches.{AreBranched, coming, in_branches}
 use Rattle.cf_answer.specs.Checks.{AreChecksBehind}
+use Rattle.cf_answer.specs.declared.unmet.Answered.{Answered}
 use Rattle.cf_answer.specs.Limits.{of_source}
 use Rattle.cf_answer.specs.Owed.{AllWritten, IsPreOf, ArePres, AreChecks}
 use Rattle.cf_answer.specs.Refusals.{IsBadProgram, unruly, refused, IsRefusedSource}
@@ -112,12 +113,13 @@ pub pres_unrefused : (text : List ℕ) (cs : List (ChooseTree × Branch)) (pres 
 pres_unrefused text cs pres f b owed h =
     written_unrefused (λ c. c.0) (λ c. IsPreOf c.0 c.1) (λ c t p. p.within) text b.typed cs pres f b.is (branched_chooses text cs b) owed h
 
-checks_within : (ms : List MatchTree) (told : List ToldChoose) (before : ℕ) (qs : List ChooseTree) (text : List ℕ) → AreChecksBehind ms told before qs text →
-    All IsWithin qs
-checks_within ms told before [] text h = All-nil IsWithin
-checks_within ms told before (q ∷ qs) text h = All-cons IsWithin q qs h.3.within (checks_within ms told q.number qs h.1 h.4)
+checks_within : (edition : Edition) (ms : List MatchTree) (told : List ToldChoose) (before : ℕ) (qs : List ChooseTree) (text : List ℕ) (a : Answered) →
+    AreChecksBehind edition ms told before qs text a → All IsWithin qs
+checks_within edition ms told before [] text a h = All-nil IsWithin
+checks_within edition ms told before (q ∷ qs) text a h =
+    All-cons IsWithin q qs h.6.within (checks_within edition ms told q.number qs h.1 h.4 h.7)
 
-pub checks_unrefused : (text : List ℕ) (told : List ToldChoose) (typed : TypedTree) (checks : List ℕ) (f : Fault) → IsTypedSource text typed →
-    AreChecks told typed checks → IsRefusedSource text f → ⊥
-checks_unrefused text told typed checks f s owed h =
-    within_unrefused text typed f s (checks_within (all_matches typed.defs) told 0 (by_number (all_chooses typed.defs)) checks owed) h
+pub checks_unrefused : (text : List ℕ) (told : List ToldChoose) (typed : TypedTree) (checks : List ℕ) (a : Answered) (f : Fault) → IsTypedSource text typed →
+    AreChecks (edition_of text) told typed checks a → IsRefusedSource text f → ⊥
+checks_unrefused text told typed checks a f s owed h =
+    within_unrefused text typed f s (checks_within (edition_of text) (all_matches typed.defs) told 0 (by_number (all_chooses typed.defs)) checks a owed) h

@@ -39,8 +39,9 @@ rules : (number_of (fault.Rule (rule.UnknownName place)) ≡ 7) × (number_of (f
     × (number_of (fault.Rule (rule.WrongCount place)) ≡ 7) × (number_of (fault.Rule (rule.Mismatch place)) ≡ 7)
     × (number_of (fault.Rule (rule.NotConstant place)) ≡ 7) × (number_of (fault.Rule (rule.ConstantBelow place)) ≡ 7)
     × (number_of (fault.Rule (rule.ConstantPast place)) ≡ 7)
-    × (number_of (fault.Rule (rule.CallsLater place)) ≡ 7) × (number_of (fault.Rule rule.NoMain) ≡ 7) × (number_of fault.BadTarget ≡ 7)
-rules = (refl, refl, refl, refl, refl, refl, refl, refl, refl, refl)
+    × (number_of (fault.Rule (rule.CallsLater place)) ≡ 7) × (number_of (fault.Rule rule.NoMain) ≡ 7)
+    × (number_of fault.NoSetsInC ≡ 7) × (number_of fault.BadTarget ≡ 7)
+rules = (refl, refl, refl, refl, refl, refl, refl, refl, refl, refl, refl)
 
 not-linear : number_of (fault.Rule (rule.NotLinear place)) ≡ 8
 not-linear = refl
@@ -58,3 +59,6 @@ no-memory = (refl, refl)
 
 rejected : number_of (fault.Rejected 1 0 0 why.Code) ≡ 13
 rejected = refl
+
+answers : (number_of (fault.AnswersNo 1) ≡ 14) × (number_of (fault.AnswersUndecided 2) ≡ 15)
+answers = (refl, refl)

@@ -22,7 +22,7 @@ a_fault : answer_line (Err fault.File) ≡ codes "cannot read file\n"
 a_fault = refl
 
 usage : fault_line fault.Usage ≡
-    codes "usage: comfusy compile|pre|check|run|exec|prove FILE, or comfusy verify FILE STEPS, or comfusy gen N, or comfusy --help\n"
+    codes "usage: comfusy compile|pre|check|run|exec|prove FILE, or comfusy emit LANG FILE, or comfusy verify FILE STEPS, or comfusy gen N, or comfusy --help\n"
 usage = refl
 
 outside : map fault_line (fault.File ∷ fault.Input ∷ fault.Output ∷ fault.InputTooLong ∷ fault.OutputTooLong ∷ fault.NoMemory ∷ []) ≡
@@ -30,9 +30,9 @@ outside : map fault_line (fault.File ∷ fault.Input ∷ fault.Output ∷ fault.
     ∷ codes "no memory\n" ∷ []
 outside = refl
 
-texts : map fault_line (fault.TextTooLong ∷ fault.BadByte place ∷ fault.NumberPast place ∷ fault.Syntax place ∷ fault.BadTarget ∷ []) ≡
+texts : map fault_line (fault.TextTooLong ∷ fault.BadByte place ∷ fault.NumberPast place ∷ fault.Syntax place ∷ fault.NoSetsInC ∷ fault.BadTarget ∷ []) ≡
     codes "text too long\n" ∷ codes "line 3 column 14: bad byte\n" ∷ codes "line 3 column 14: number past limit\n"
-    ∷ codes "line 3 column 14: syntax\n" ∷ codes "target not well typed\n" ∷ []
+    ∷ codes "line 3 column 14: syntax\n" ∷ codes "no sets in c\n" ∷ codes "target not well typed\n" ∷ []
 unfolding digits
 texts = refl
 

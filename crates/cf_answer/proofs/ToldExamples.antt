@@ -2,6 +2,7 @@
 use Rattle.std.proofs.Common.{◌≡◌, refl, pos, negsuc, true, false, Some, None, [], ◌∷◌, Vec, Global, codes}
 use Rattle.std.specs.Fmt.{digits}
 use Rattle.cf_tree.specs.declared.base.Base.TheVariants.{Int, Bool as Truth, Set}
+use Rattle.cf_tree.specs.declared.base.Edition.TheVariants.{Three}
 use Rattle.cf_tree.specs.declared.base.Order.TheVariants.{Eq, Ge}
 use Rattle.cf_tree.specs.RelTree.{RelTree, term_lit, term_var, rel_false, rel_compare, rel_or, rel_not}
 use Rattle.cf_tree.specs.Values.{number, truth, elements}
@@ -13,7 +14,8 @@ use Rattle.cf_warn.specs.declared.answer.Doubt.TheVariants.{Overflow}
 use Rattle.cf_warn.specs.declared.answer.ExistenceAnswer.TheVariants as existence
 use Rattle.cf_warn.specs.declared.answer.UniquenessAnswer.TheVariants as uniqueness
 use Rattle.cf_answer.specs.Checks.{AreLinesBy, told_existence_line, told_uniqueness_line}
-use Rattle.cf_answer.specs.ToldChecks.{Asked, IsBranchExistence, IsToldExistence, existence_question, named_levels, named_sample, shown_values, first_existence, first_uniqueness, told_of, is_later_branch}
+use Rattle.cf_answer.specs.ToldChecks.{Asked, ComeTo, IsBranchExistence, existence_question, named_levels, named_sample, shown_values, first_existence, first_uniqueness, told_of, is_later_branch}
+use Rattle.cf_answer.specs.Unmet.{nothing_answered}
 
 -- x == a, where p, a and b are in scope
 abbrev same : RelTree
@@ -77,7 +79,7 @@ module _ (sample later first second : Vec RunValue Global) where
 
   -- the second branch is asked where the first has no sample
   second_asked : (a : Asked) → IsBranchExistence a where_true existence.Always → IsBranchExistence a where_false (existence.Missing sample) →
-      IsToldExistence a four (existence.Missing sample)
+      ComeTo (IsBranchExistence a) first_existence existence.Always four.branches (existence.Missing sample)
   second_asked a h k = (existence.Always, h, (existence.Missing sample, k, refl))
 
   -- ---- lines
@@ -113,5 +115,5 @@ first_branch = refl
 no_branch : is_later_branch [] 4 4 ≡ false
 no_branch = refl
 
-no_lines : (q : ChooseTree) → AreLinesBy true [] (four ∷ []) q []
-no_lines q = refl
+no_lines : (q : ChooseTree) → AreLinesBy true Three [] (four ∷ []) q [] nothing_answered
+no_lines q = (refl, refl)

@@ -17,9 +17,11 @@ use Rattle.cf_program.specs.declared.linearity.Linearity.TheVariants.{Plain, Lat
 use Rattle.cf_help.specs.Faults.{words}
 use Rattle.cf_help.specs.Messages.{message, rule_message, syntax_words}
 use Rattle.cf_help.specs.Numbers.{function_place, number_place}
-use Rattle.cf_words.specs.Commands.{compile, run, pre, check, exec, prove, verify, gen, help, version}
+use Rattle.cf_print.specs.declared.language.Language.TheVariants.{C}
+use Rattle.cf_words.specs.Commands.{Emitting, compile, run, pre, check, exec, prove, emit, verify, gen, help, version}
 use Rattle.cf_words.specs.declared.command.Flags.{Flags}
 use Rattle.cf_words.specs.declared.command.ReplyForm.{ReplyForm}
+use Rattle.cf_words.specs.declared.command.Strictness.TheVariants as strictness
 use Rattle.cf_answer.specs.Limits.{text_limit, of_source}
 use Rattle.cf_answer.specs.Sources.{HasTokens, SpellsProgram}
 use Rattle.cf_answer.specs.Written.{source_of, linearity_of, front_of, line_of, message_or, IsDeserted, IsOfText, IsSaid, IsSaidIn, IsWritten, IsWrittenBy}
@@ -31,6 +33,9 @@ flags = record { plain = false; stats = false }
 
 abbrev form : ReplyForm
 form = record { key = false; jsonl = false }
+
+abbrev in_c : Emitting
+in_c = record { language = C; has_main = false; name = codes "answer" }
 
 abbrev name : List ℕ
 name = codes "p.cf"
@@ -46,14 +51,17 @@ at line column = record { line = line; column = column }
 
 -- ---- the source of a command
 sources : (source_of (compile flags name) ≡ Some name) × (source_of (run flags form name) ≡ Some name) × (source_of (pre name) ≡ Some name)
-    × (source_of (check name) ≡ Some name) × (source_of (prove name) ≡ Some name) × (source_of (verify name (codes "s")) ≡ Some name)
+    × (source_of (check strictness.Told name) ≡ Some name) × (source_of (prove name) ≡ Some name) × (source_of (verify name (codes "s")) ≡ Some name)
 sources = (refl, refl, refl, refl, refl, refl)
+
+source-of_emit : (source_of (emit in_c name) ≡ Some name) × (linearity_of (emit in_c name) ≡ Plain)
+source-of_emit = (refl, refl)
 
 no-sources : (source_of (exec form name) ≡ None) × (source_of (gen 7) ≡ None) × (source_of help ≡ None) × (source_of version ≡ None)
 no-sources = (refl, refl, refl, refl)
 
 linear-by_the_command : (linearity_of (run flags form name) ≡ Late) × (linearity_of (compile flags name) ≡ Plain) × (linearity_of (pre name) ≡ Plain)
-    × (linearity_of (check name) ≡ Plain) × (linearity_of (prove name) ≡ Plain) × (linearity_of (verify name (codes "s")) ≡ Plain)
+    × (linearity_of (check strictness.Told name) ≡ Plain) × (linearity_of (prove name) ≡ Plain) × (linearity_of (verify name (codes "s")) ≡ Plain)
 linear-by_the_command = (refl, refl, refl, refl, refl, refl)
 
 -- ---- faults of a text of edition 3
@@ -104,6 +112,16 @@ said-of_the_outside : IsSaid Plain name in_three fault.File (codes "cannot read 
     × IsSaid Plain name in_three fault.OutputTooLong (codes "text too long\n")
 said-of_the_outside = (refl, refl, refl, refl, refl)
 
+-- a strict check has refused nothing, so its line is that of language 2
+said-of_answers : IsSaid Plain name in_three (fault.AnswersNo 2) (codes "check: 2 answers are no\n")
+    × IsSaid Plain name in_three (fault.AnswersUndecided 1) (codes "check: 1 answer is undecided\n")
+unfolding digits
+said-of_answers = (refl, refl)
+
+-- no part of the text is at fault where a language has no sets
+said-of_sets : IsSaid Plain name in_three fault.NoSetsInC (codes "no sets in c\n")
+said-of_sets = refl
+
 said-of_steps : IsSaid Plain name in_three (fault.Steps (Syntax (at 3 4))) (codes "steps line 3 column 4: syntax\n")
 unfolding digits
 said-of_steps = refl
@@ -137,7 +155,7 @@ written-of_no_command = refl
 written-of_a_target : IsWrittenBy (Some (exec form name)) (λ name. Some in_three) (Err fault.BadTarget) (codes "target not well typed\n")
 written-of_a_target = inl refl
 
-written-of_a_source : IsWrittenBy (Some (check name)) (λ name. Some in_three) (Err fault.TextTooLong) (codes "p.cf: text too long\n")
+written-of_a_source : IsWrittenBy (Some (check strictness.Told name)) (λ name. Some in_three) (Err fault.TextTooLong) (codes "p.cf: text too long\n")
 unfolding text_limit
 written-of_a_source = inl (in_three, refl, refl)
 

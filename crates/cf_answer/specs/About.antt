@@ -13,12 +13,13 @@ help_text = concat (
     codes "  compile FILE [--plain] [--stats]                write the compiled program, the target\n" ∷
     codes "  run FILE [--plain] [--stats] [--key] [--jsonl]  answer the lines of the input by the program\n" ∷
     codes "  pre FILE                                        write for which inputs each choose has outputs\n" ∷
-    codes "  check FILE                                      write whether there always are outputs, and one only\n" ∷
+    codes "  check FILE [--strict [--unique]]                write whether there always are outputs, and one only\n" ∷
     codes "  exec FILE [--key] [--jsonl]                     answer the lines of the input by a target\n" ∷
     codes "  prove FILE                                      write the steps by which each choose was solved\n" ∷
+    codes "  emit LANG FILE [--main] [--name NAME]           write the program as a file of c, python or js\n" ∷
     codes "  verify FILE STEPS                               check such steps\n" ∷
     codes "  gen N                                           run a generated workload\n" ∷
     codes "  --help, -h                                      write this\n" ∷
     codes "  --version                                       write the version, and the editions of the language\n" ∷
-    codes "FILE holds a source, and for exec a target; compile, pre, check and prove take - for the standard input.\n" ∷
+    codes "FILE holds a source, and for exec a target; compile, pre, check, prove and emit take - for the standard input.\n" ∷
     codes "The guide is docs/GUIDE.md; man comfusy has all the rest.\n" ∷ [])

@@ -1,6 +1,7 @@
 -- What the numbers of chooses are of, and what is added for each; for the contracts within the crate.
 use Rattle.std.specs.Prelude.{◌≡◌, ℕ, Option, Some, None, List, ◌++◌, length, map, flat_map, All, Contains}
 use Rattle.std.specs.List.Sorted.{IsNonDecreasingBy, IsPermutation}
+use Rattle.cf_tree.specs.declared.base.Edition.{Edition}
 use Rattle.cf_tree.specs.RelView.{rel_tree}
 use Rattle.cf_match.specs.Matches.{MatchTree, match_tree}
 use Rattle.cf_match.specs.declared.class.Class.{Class}
@@ -11,7 +12,8 @@ use Rattle.cf_tree.specs.Values.{Value}
 use Rattle.cf_choose.specs.declared.fault.ChooseFault.{ChooseFault}
 use Rattle.cf_choose.specs.declared.fault.ChooseFault.TheVariants as faults
 use Rattle.cf_choose.specs.declared.solved.SolvedParts.{SolvedParts}
-use Rattle.cf_form.specs.Told.{ToldChoose}
+use Rattle.cf_decide.specs.Answers.{SaysExistence, SaysUniqueness}
+use Rattle.cf_form.specs.Told.{HoldsCondition, HoldConditions, ToldChoose}
 use Rattle.cf_form.specs.ToldView.{told_choose, truth_at}
 use Rattle.cf_form.specs.declared.told.TruthAt.{TruthAt}
 use Rattle.cf_build.specs.Solves.{IsSolved}
@@ -26,8 +28,12 @@ use Rattle.cf_warn.specs.declared.answer.UniquenessAnswer.{UniquenessAnswer}
 use Rattle.cf_warn.specs.declared.answer.UniquenessAnswer.TheVariants as uniqueness
 use Rattle.cf_warn.specs.declared.coverage.Cover.{Cover}
 use Rattle.cf_answer.specs.Checks.{IsMatch, IsArm, IsOwn, AreLines, IsCheckBehind, asked_of, cover_line, told_existence_line, told_uniqueness_line, existence_text, names_at, uniqueness_text}
+use Rattle.cf_answer.specs.Tells.{TellsExistence, TellsUniqueness}
 use Rattle.cf_answer.specs.Texts.{numbered_line}
-use Rattle.cf_answer.specs.ToldChecks.{Asked, named_sample, IsToldExistence, IsToldUniqueness}
+use Rattle.cf_answer.specs.ToldChecks.{Asked, named_sample}
+use Rattle.cf_answer.specs.Unmet.{answered, unmet_cover, unmet_existence, unmet_uniqueness}
+use Rattle.cf_answer.specs.declared.unmet.Answered.{Answered}
+use Rattle.cf_answer.specs.declared.unmet.Unmet.{Unmet}
 use Rattle.cf_answer.specs.declared.told_check.Asked.{Asked as DeclaredAsked}
 use Rattle.cf_answer.specs.declared.told_check.Telling.{Telling}
 use Rattle.cf_answer.specs.declared.told_check.Telling.TheVariants.{Nothing, Told}
@@ -47,36 +53,37 @@ IsOrigin matches n Choose = IsOwn matches n
 IsOrigin matches n Arm = (m : MatchTree) × Contains matches m × IsArm m n
 IsOrigin matches n (Match info) = Contains matches (match_tree info.now) × IsMatch (match_tree info.now) n × AreClasses info.now.classes.items
 
--- the line of a verdict on this choose, whose parameters have these levels, was added to the text
-abbrev pub AddsExistence : SolvedChoose → List ℕ → List ℕ → List ℕ → Type 0
-AddsExistence s levels old new =
+-- the line of a verdict on this choose, whose parameters have these levels, was added to the text, and adds this to the answers that are not yes
+abbrev pub AddsExistence : SolvedChoose → List ℕ → List ℕ → List ℕ → Unmet → Type 0
+AddsExistence s levels old new unmet =
     (e : ExistenceAnswer) × IsExistence s.solved.scope.items s.solved.outputs.items (rel_tree s.solved.rel) e
-    × (new ≡ old ++ numbered_line s.choose.number (existence_text (names_at (names_of s.choose.scope.now) levels) e))
+    × (new ≡ old ++ numbered_line s.choose.number (existence_text (names_at (names_of s.choose.scope.now) levels) e)) × (unmet ≡ unmet_existence e)
 
-abbrev pub AddsUniqueness : SolvedChoose → List ℕ → List ℕ → List ℕ → Type 0
-AddsUniqueness s levels old new =
+abbrev pub AddsUniqueness : SolvedChoose → List ℕ → List ℕ → List ℕ → Unmet → Type 0
+AddsUniqueness s levels old new unmet =
     (u : UniquenessAnswer)
     × IsUniqueness s.solved.scope.items s.solved.outputs.items (length s.solved.outputs.items) (rel_tree s.solved.rel) u
-    × (new ≡ old ++ numbered_line s.choose.number (uniqueness_text (names_at (names_of s.choose.scope.now) levels) u))
+    × (new ≡ old ++ numbered_line s.choose.number (uniqueness_text (names_at (names_of s.choose.scope.now) levels) u)) × (unmet ≡ unmet_uniqueness u)
 
-abbrev pub AddsCover : ℕ → List Class → List ℕ → List ℕ → Type 0
-AddsCover n classes old new = (c : Cover) × IsCover classes c × (new ≡ old ++ cover_line n c)
+abbrev pub AddsCover : ℕ → List Class → List ℕ → List ℕ → Unmet → Type 0
+AddsCover n classes old new unmet = (c : Cover) × IsCover classes c × (new ≡ old ++ cover_line n c) × (unmet ≡ unmet_cover c)
 
--- the lines of a choose were added
-abbrev pub AddsCheck : List MatchTree → List ToldChoose → SolvedChoose → List ℕ → List ℕ → Type 0
-AddsCheck matches told s old new = (q : ChooseTree) → IsSolved q s → (more : List ℕ) × (new ≡ old ++ more) × AreLines matches told q more
+-- the lines of a choose were added, with what they answer, where the conditions that are told are part of the relations
+abbrev pub AddsCheck : Edition → List MatchTree → List ToldChoose → SolvedChoose → List ℕ → List ℕ → Answered → Type 0
+AddsCheck edition matches told s old new a =
+    (q : ChooseTree) → IsSolved q s → HoldConditions told → (more : List ℕ) × (new ≡ old ++ more) × AreLines edition matches told q more a
 
 -- the same of one behind a choose of number `before`
-abbrev pub AddsCheckBehind : List MatchTree → List ToldChoose → ℕ → SolvedChoose → List ℕ → List ℕ → Type 0
-AddsCheckBehind matches told before s old new =
-    (q : ChooseTree) → IsSolved q s → (more : List ℕ) × (new ≡ old ++ more) × IsCheckBehind matches told before q more
+abbrev pub AddsCheckBehind : Edition → List MatchTree → List ToldChoose → ℕ → SolvedChoose → List ℕ → List ℕ → Answered → Type 0
+AddsCheckBehind edition matches told before s old new a =
+    (q : ChooseTree) → IsSolved q s → HoldConditions told → (more : List ℕ) × (new ≡ old ++ more) × IsCheckBehind edition matches told before q more a
 
 -- the lines of a choose of which this is told were added
-abbrev pub AddsTold : SolvedChoose → ToldChoose → List ℕ → List ℕ → Type 0
-AddsTold s c old new =
-    (q : ChooseTree) → IsSolved q s →
-    (e : ExistenceAnswer) × (u : UniquenessAnswer) × IsToldExistence (asked_of q c) c e × IsToldUniqueness (asked_of q c) c u
-    × (new ≡ old ++ (told_existence_line q c e ++ told_uniqueness_line q c u))
+abbrev pub AddsTold : SolvedChoose → ToldChoose → List ℕ → List ℕ → Answered → Type 0
+AddsTold s c old new a =
+    (q : ChooseTree) → IsSolved q s → All HoldsCondition c.branches →
+    (e : ExistenceAnswer) × (u : UniquenessAnswer) × TellsExistence (asked_of q c) c.branches e × TellsUniqueness (asked_of q c) c.branches u
+    × (new ≡ old ++ (told_existence_line q c e ++ told_uniqueness_line q c u)) × (a ≡ answered (unmet_existence e) (unmet_uniqueness u))
 
 -- ---- chooses that are told of
 abbrev pub asked_view : DeclaredAsked → Asked
@@ -86,12 +93,12 @@ abbrev pub telling_view : Telling → Option ToldChoose
 telling_view Nothing = None
 telling_view (Told c) = Some (told_choose c.now)
 
--- the verdicts of a solved relation
+-- what is said of a solved relation
 abbrev pub IsExistenceOf : SolvedParts → ExistenceAnswer → Type 0
-IsExistenceOf s e = IsExistence s.scope.items s.outputs.items (rel_tree s.rel) e
+IsExistenceOf s e = SaysExistence s.scope.items s.outputs.items (rel_tree s.rel) e
 
 abbrev pub IsUniquenessOf : SolvedParts → ℕ → UniquenessAnswer → Type 0
-IsUniquenessOf s shown u = IsUniqueness s.scope.items s.outputs.items shown (rel_tree s.rel) u
+IsUniquenessOf s shown u = SaysUniqueness s.scope.items s.outputs.items shown (rel_tree s.rel) u
 
 -- that a question which is refused is not decided
 abbrev pub IsRefusedExistence : ChooseFault → ExistenceAnswer → Type 0

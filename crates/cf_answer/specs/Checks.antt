@@ -2,6 +2,7 @@
 use Rattle.std.specs.Prelude.{◌≡◌, ℕ, Bool, true, false, List, [], ◌∷◌, ◌++◌, length, map, get_or, codes, decimal, Some, None, Contains}
 use Rattle.std.specs.List.{concat}
 use Rattle.std.specs.Fmt.{signed_decimal}
+use Rattle.cf_tree.specs.declared.base.Edition.{Edition}
 use Rattle.cf_tree.specs.Values.{Value}
 use Rattle.cf_match.specs.Matches.{MatchTree}
 use Rattle.cf_tree.specs.ChooseTree.{ChooseTree}
@@ -11,7 +12,6 @@ use Rattle.cf_eval.specs.Texts.{value_text, values_text}
 use Rattle.cf_form.specs.Told.{ToldChoose}
 use Rattle.cf_linear.specs.Reasons.{refusal_text}
 use Rattle.cf_warn.specs.Questions.{parameters}
-use Rattle.cf_warn.specs.Covers.{IsCover}
 use Rattle.cf_warn.specs.Verdicts.{IsExistence, IsUniqueness}
 use Rattle.cf_warn.specs.declared.answer.Doubt.{Doubt}
 use Rattle.cf_warn.specs.declared.answer.Doubt.TheVariants.{Refused, Overflow}
@@ -21,8 +21,11 @@ use Rattle.cf_warn.specs.declared.answer.UniquenessAnswer.{UniquenessAnswer}
 use Rattle.cf_warn.specs.declared.answer.UniquenessAnswer.TheVariants as uniqueness
 use Rattle.cf_warn.specs.declared.coverage.Cover.{Cover}
 use Rattle.cf_warn.specs.declared.coverage.Cover.TheVariants as cover
+use Rattle.cf_answer.specs.Tells.{TellsExistence, TellsUniqueness, TellsArm, TellsCover}
 use Rattle.cf_answer.specs.Texts.{numbered_line}
-use Rattle.cf_answer.specs.ToldChecks.{Asked, named_levels, told_of, is_later_branch, IsToldExistence, IsToldUniqueness}
+use Rattle.cf_answer.specs.ToldChecks.{Asked, named_levels, told_of, is_later_branch}
+use Rattle.cf_answer.specs.Unmet.{answered, nothing_answered, nothing_unmet, unmet_cover, unmet_existence, unmet_uniqueness, with_answered}
+use Rattle.cf_answer.specs.declared.unmet.Answered.{Answered}
 
 -- ---- verdicts
 -- why a question is not decided
@@ -100,32 +103,34 @@ IsArm m n = Contains m.arms n
 abbrev pub IsOwn : List MatchTree → ℕ → Type 0
 IsOwn matches n = (m : MatchTree) → Contains matches m → (IsMatch m n → ⊥) × (IsArm m n → ⊥)
 
--- The lines of a choose, by what its number is of: a choose of the source, of which nothing or this is told, an arm of one of these matches, or one of the
--- matches.
-pub data AreLines (matches : List MatchTree) (told : List ToldChoose) (q : ChooseTree) : List ℕ → Type 0 where
+-- The lines of a choose, with what they answer, by what its number is of: a choose of the source, of which nothing or this is told, an arm of one of these
+-- matches, or one of the matches. In language 2, where nothing is told, a verdict is that on its question; in edition 3 it has a meaning alone.
+pub data AreLines (edition : Edition) (matches : List MatchTree) (told : List ToldChoose) (q : ChooseTree) : List ℕ → Answered → Type 0 where
   of_choose : IsOwn matches q.number → told_of told q.number ≡ None → (e : ExistenceAnswer) → (u : UniquenessAnswer) →
       IsExistence q.scope q.outputs q.relation e → IsUniqueness q.scope q.outputs (length q.outputs) q.relation u →
-      AreLines matches told q (existence_line q e ++ uniqueness_line q u)
+      AreLines edition matches told q (existence_line q e ++ uniqueness_line q u) (answered (unmet_existence e) (unmet_uniqueness u))
   of_told : IsOwn matches q.number → (c : ToldChoose) → told_of told q.number ≡ Some c → (e : ExistenceAnswer) → (u : UniquenessAnswer) →
-      IsToldExistence (asked_of q c) c e → IsToldUniqueness (asked_of q c) c u →
-      AreLines matches told q (told_existence_line q c e ++ told_uniqueness_line q c u)
-  of_arm : (m : MatchTree) → Contains matches m → IsArm m q.number → (u : UniquenessAnswer) →
-      IsUniqueness q.scope q.outputs (length q.outputs) q.relation u → AreLines matches told q (uniqueness_line q u)
-  of_match : (m : MatchTree) → Contains matches m → IsMatch m q.number → (c : Cover) → IsCover m.classes c → AreLines matches told q (cover_line q.number c)
+      TellsExistence (asked_of q c) c.branches e → TellsUniqueness (asked_of q c) c.branches u →
+      AreLines edition matches told q (told_existence_line q c e ++ told_uniqueness_line q c u) (answered (unmet_existence e) (unmet_uniqueness u))
+  of_arm : (m : MatchTree) → Contains matches m → IsArm m q.number → (u : UniquenessAnswer) → TellsArm edition q.scope q.outputs q.relation u →
+      AreLines edition matches told q (uniqueness_line q u) (answered nothing_unmet (unmet_uniqueness u))
+  of_match : (m : MatchTree) → Contains matches m → IsMatch m q.number → (c : Cover) → TellsCover edition m.classes c →
+      AreLines edition matches told q (cover_line q.number c) (answered (unmet_cover c) nothing_unmet)
 
 -- later branches of a choose that is told of have no lines of their own
-abbrev pub AreLinesBy : Bool → List MatchTree → List ToldChoose → ChooseTree → List ℕ → Type 0
-AreLinesBy true matches told q text = text ≡ []
-AreLinesBy false matches told q text = AreLines matches told q text
+abbrev pub AreLinesBy : Bool → Edition → List MatchTree → List ToldChoose → ChooseTree → List ℕ → Answered → Type 0
+AreLinesBy true edition matches told q text a = (text ≡ []) × (a ≡ nothing_answered)
+AreLinesBy false edition matches told q text a = AreLines edition matches told q text a
 
--- a choose behind one of number `before` passes no limit, and these are its lines
-pub record IsCheckBehind (matches : List MatchTree) (told : List ToldChoose) (before : ℕ) (q : ChooseTree) (text : List ℕ) : Type 0 where
+-- a choose behind one of number `before` passes no limit, and these are its lines with what they answer
+pub record IsCheckBehind (edition : Edition) (matches : List MatchTree) (told : List ToldChoose) (before : ℕ) (q : ChooseTree) (text : List ℕ) (a : Answered)
+    : Type 0 where
   pub within : limit_of q ≡ None
-  pub lines : AreLinesBy (is_later_branch told before q.number) matches told q text
+  pub lines : AreLinesBy (is_later_branch told before q.number) edition matches told q text a
 
--- the lines of chooses in order, behind one of number `before`
-abbrev pub AreChecksBehind : List MatchTree → List ToldChoose → ℕ → List ChooseTree → List ℕ → Type 0
-AreChecksBehind matches told before [] text = text ≡ []
-AreChecksBehind matches told before (q ∷ qs) text =
-    (first : List ℕ) × (more : List ℕ) × (text ≡ first ++ more) × IsCheckBehind matches told before q first
-    × AreChecksBehind matches told q.number qs more
+-- the lines of chooses in order, behind one of number `before`, with what they answer together
+abbrev pub AreChecksBehind : Edition → List MatchTree → List ToldChoose → ℕ → List ChooseTree → List ℕ → Answered → Type 0
+AreChecksBehind edition matches told before [] text a = (text ≡ []) × (a ≡ nothing_answered)
+AreChecksBehind edition matches told before (q ∷ qs) text a =
+    (first : List ℕ) × (more : List ℕ) × (text ≡ first ++ more) × (here : Answered) × (there : Answered) × (a ≡ with_answered here there)
+    × IsCheckBehind edition matches told before q first here × AreChecksBehind edition matches told q.number qs more there

@@ -2,16 +2,17 @@
 use Rattle.std.specs.Prelude.{ℕ, Bool, true, false, not, List, [], ◌∷◌, Option, None}
 use Rattle.cf_answer.specs.Limits.{text_limit, written_limit, written_most, of_target, most_of}
 use Rattle.cf_tree.specs.declared.base.Edition.{Edition}
-use Rattle.cf_words.specs.Commands.{Command, compile, run, pre, check, exec, prove, verify, gen, help, version}
+use Rattle.cf_words.specs.Commands.{Command, compile, run, pre, check, exec, prove, emit, verify, gen, help, version}
 
 -- the names of the files that it reads, in order
 abbrev pub names_of : Command → List (List ℕ)
 names_of (compile flags file) = file ∷ []
 names_of (run flags form file) = file ∷ []
 names_of (pre file) = file ∷ []
-names_of (check file) = file ∷ []
+names_of (check strictness file) = file ∷ []
 names_of (exec form file) = file ∷ []
 names_of (prove file) = file ∷ []
+names_of (emit e file) = file ∷ []
 names_of (verify file steps) = file ∷ steps ∷ []
 names_of (gen n) = []
 names_of help = []
@@ -26,6 +27,7 @@ reads_input command = false
 abbrev pub calls_passes : Command → Bool
 calls_passes (compile flags file) = not flags.plain
 calls_passes (run flags form file) = not flags.plain
+calls_passes (emit e file) = true
 calls_passes (gen n) = true
 calls_passes command = false
 

@@ -14,7 +14,7 @@ use Rattle.cf_words.specs.Commands.{Command, verify}
 use Rattle.cf_answer.specs.Commands.{names_of, reads_input, calls_passes, text_most, output_most}
 use Rattle.cf_answer.specs.Limits.{edition_for, input_most}
 use Rattle.cf_answer.specs.Outside.{Outside, Streams, Taken, AreTold, AreTexts, Counts, Blames, IsFrugal, IsSparing}
-use Rattle.cf_answer.specs.Owed.{Owes}
+use Rattle.cf_answer.specs.Owed.{Owes, Judges}
 use Rattle.cf_answer.specs.Passes.{ArePassed, closing}
 use Rattle.cf_answer.specs.Refusals.{Refuses}
 use Rattle.cf_answer.specs.Sources.{IsTypedSource}
@@ -72,14 +72,20 @@ IsStopped job before after =
     × Wrote job before after TookPrefix front (answered_lines (input_most job.files) (input_for job.command (front ++ rest)))
     (behind_lines (input_most job.files) (input_for job.command (front ++ rest)) (closing_of job))
 
--- Done: all was read, and all that is owed was written. The input failed: the lines were answered whose line feed was read. The input is too long: those
+-- all was read, and all that is owed was written, which comes to this answer
+abbrev pub IsDone : Job → Streams → Streams → Result (Unit {0}) Fault → Type 0
+IsDone job before after answer =
+    (front : List ℕ) × IsReadUp (reads_input job.command) after.input.left × IsWithin (input_most job.files) (length front)
+    × (wrote : Wrote job before after Appends front (lines front) (closing_of job)) × Judges job.command job.files wrote.text answer
+
+-- Done, or answers of a strict `check` are no or undecided: all was read, and all that is owed was written. The input failed: the lines were answered whose line feed was read. The input is too long: those
 -- were whose line feed stands within the limit. What is owed is past the limit of what is written: nothing was written. `out` failed, or memory ran out:
 -- a prefix was written of what is owed. The file failed: nothing was written,
 -- and no pass was called. It is refused: nothing was written.
 abbrev pub Ends : Job → Streams → Streams → Result (Unit {0}) Fault → Type 0
-Ends job before after (Ok done) =
-    (front : List ℕ) × IsReadUp (reads_input job.command) after.input.left × IsWithin (input_most job.files) (length front)
-    × Wrote job before after Appends front (lines front) (closing_of job)
+Ends job before after (Ok done) = IsDone job before after (Ok tt)
+Ends job before after (Err (fault.AnswersNo n)) = IsDone job before after (Err (fault.AnswersNo n))
+Ends job before after (Err (fault.AnswersUndecided n)) = IsDone job before after (Err (fault.AnswersUndecided n))
 Ends job before after (Err fault.Input) =
     (front : List ℕ) × (reads_input job.command ≡ true) × IsWithin (input_most job.files) (length front) × Wrote job before after Appends front (ended front) []
 Ends job before after (Err fault.InputTooLong) =

@@ -5,6 +5,7 @@ pub mod Certificates
 pub mod Checking
 pub mod Checks
 pub mod Commands
+pub mod Emitting
 pub mod Ends
 pub mod Forms
 pub mod LateReplies
@@ -20,8 +21,10 @@ pub mod ResultNames
 pub mod Sources
 pub mod Statuses
 pub mod Steps
+pub mod Tells
 pub mod Texts
 pub mod ToldChecks
+pub mod Unmet
 pub mod Verifying
 pub mod Workloads
 pub mod Written

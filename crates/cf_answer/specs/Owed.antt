@@ -1,5 +1,5 @@
 -- What a command is to write, in all.
-use Rattle.std.specs.Prelude.{◌≡◌, ℕ, ◌*◌, ℤ, pos, ◌+ℤ◌, Bool, true, not, List, [], ◌∷◌, ◌++◌, length, flat_map, None, codes, decimal}
+use Rattle.std.specs.Prelude.{◌≡◌, ℕ, ◌*◌, ℤ, pos, ◌+ℤ◌, Bool, true, not, List, [], ◌∷◌, ◌++◌, length, flat_map, None, codes, decimal, Result, Ok}
 use Rattle.std.specs.List.{concat}
 use Rattle.std.specs.Fmt.{signed_decimal}
 use Rattle.cf_gen.specs.Workload.{gen_source, gen_lines}
@@ -20,14 +20,15 @@ use Rattle.cf_build.specs.Chooses.{all_chooses, by_number, limit_of, choose_arms
 use Rattle.cf_emit.specs.Printed.{target_text, pre_text}
 use Rattle.cf_emit.specs.ReadsBack.{ReadsBack}
 use Rattle.cf_late.specs.ChooseRun.{LateOutcome, solve_run}
-use Rattle.cf_pass.specs.Passes.{Told}
-use Rattle.cf_words.specs.Commands.{Command, compile, run, pre, check, exec, prove, verify, gen, help, version}
+use Rattle.cf_pass.specs.Passes.{Told, HaveTurned}
+use Rattle.cf_words.specs.Commands.{Command, compile, run, pre, check, exec, prove, emit, verify, gen, help, version}
 use Rattle.cf_words.specs.declared.command.ReplyForm.{ReplyForm}
 use Rattle.cf_answer.specs.About.{help_text, version_text}
 use Rattle.cf_form.specs.Branches.{Branch}
 use Rattle.cf_answer.specs.Branches.{AreBranched, valued}
 use Rattle.cf_answer.specs.Certificates.{AreProofs, AreVerified, verified_line}
 use Rattle.cf_answer.specs.Checks.{AreChecksBehind}
+use Rattle.cf_answer.specs.Emitting.{CompilesIn, IsEmitted}
 use Rattle.cf_answer.specs.Forms.{Wording, as_text, Form, form_of, InForm}
 use Rattle.cf_answer.specs.LateReplies.{main_comes, AreRunsAllowed}
 use Rattle.cf_answer.specs.Passes.{AreCalled, applied}
@@ -35,6 +36,9 @@ use Rattle.cf_answer.specs.Picked.{main_bases, IsSourceReply, adds}
 use Rattle.cf_answer.specs.Replies.{IsReplyIn}
 use Rattle.cf_answer.specs.ResultNames.{AreResultNames}
 use Rattle.cf_answer.specs.Sources.{Compiles, IsTypedSource, AreToldOf, IsLateSource, IsTypedTarget}
+use Rattle.cf_answer.specs.Unmet.{judged}
+use Rattle.cf_answer.specs.declared.fault.Fault.{Fault}
+use Rattle.cf_answer.specs.declared.unmet.Answered.{Answered}
 
 -- what answers the lines of the input: a target, or a late program
 pub data Answerer : Type 0 where
@@ -114,14 +118,14 @@ AllWritten Is (q ∷ qs) text = (first : List ℕ) × (more : List ℕ) × (text
 abbrev pub ArePres : List (ChooseTree × Branch) → List ℕ → Type 0
 ArePres cs text = AllWritten (λ c. IsPreOf c.0 c.1) cs text
 
--- the lines of its chooses, of which this is told, and of its matches, in the order of their numbers, which are at least 1
-abbrev pub AreChecks : List ToldChoose → TypedTree → List ℕ → Type 0
-AreChecks told typed text = AreChecksBehind (all_matches typed.defs) told 0 (by_number (all_chooses typed.defs)) text
+-- the lines of its chooses, of which this is told, and of its matches, in the order of their numbers, which are at least 1, and what they answer
+abbrev pub AreChecks : Edition → List ToldChoose → TypedTree → List ℕ → Answered → Type 0
+AreChecks edition told typed text a = AreChecksBehind edition (all_matches typed.defs) told 0 (by_number (all_chooses typed.defs)) text a
 
 -- the lines of the chooses and matches of a source
-abbrev pub AreSourceChecks : List ℕ → List ℕ → Type 0
-AreSourceChecks source text =
-    (told : List ToldChoose) × AreToldOf source told × (typed : TypedTree) × IsTypedSource source typed × AreChecks told typed text
+abbrev pub AreSourceChecks : List ℕ → List ℕ → Answered → Type 0
+AreSourceChecks source text a =
+    (told : List ToldChoose) × AreToldOf source told × (typed : TypedTree) × IsTypedSource source typed × AreChecks (edition_of source) told typed text a
 
 -- the sum of the replies of the target, which its program picks, where so many passes have rewritten it
 abbrev pub IsSum : RawTarget → TypedTree → ℕ → List (List ℕ) → ℤ → Type 0
@@ -141,10 +145,12 @@ Owes (compile flags name) (file ∷ []) given last ls text =
     (t : RawTarget) × IsCompiledBy (not flags.plain) file given last t × IsPrinted (edition_of file) t text
 Owes (run flags asked name) (file ∷ []) given last ls text = OwesNamed (not flags.plain) asked file given last ls text
 Owes (pre name) (file ∷ []) given last ls text = (cs : List (ChooseTree × Branch)) × AreBranched file cs × ArePres cs text
-Owes (check name) (file ∷ []) given last ls text = AreSourceChecks file text
+Owes (check strictness name) (file ∷ []) given last ls text = (a : Answered) × AreSourceChecks file text a
 Owes (exec asked name) (file ∷ []) given last ls text =
     (t : RawTarget) × IsTypedTarget file (target_tree t) × AreReplies (record { by = by_target t; form = form_of asked [] }) ls text
 Owes (prove name) (file ∷ []) given last ls text = (cs : List (ChooseTree × Branch)) × AreBranched file cs × AreProofs (edition_of file) cs text
+Owes (emit e name) (file ∷ []) given last ls text =
+    (t : RawTarget) × CompilesIn e.language given last file t × HaveTurned given last × IsEmitted e file t text
 Owes (verify name steps_name) (source ∷ steps ∷ []) given last ls text =
     (cs : List (ChooseTree × Branch)) × AreBranched source cs × AreVerified (edition_of source) cs steps
     × (text ≡ flat_map (λ c. verified_line c.0) cs)
@@ -154,3 +160,8 @@ Owes (gen n) [] given last ls text =
 Owes help [] given last ls text = text ≡ help_text
 Owes version [] given last ls text = text ≡ version_text
 Owes command files given last ls text = ⊥
+
+-- What a command comes to on these files that has written this: `check` as strictly as it is asked, and any other is done.
+abbrev pub Judges : Command → List (List ℕ) → List ℕ → Result (Unit {0}) Fault → Type 0
+Judges (check strictness name) (file ∷ []) text answer = (a : Answered) × AreSourceChecks file text a × (answer ≡ judged strictness a)
+Judges command files text answer = answer ≡ Ok tt

@@ -1,5 +1,5 @@
 -- Why the text of a file is refused.
-use Rattle.std.specs.Prelude.{◌≡◌, ℕ, ◌<◌, List, [], ◌∷◌, length, Ok, Err}
+use Rattle.std.specs.Prelude.{◌≡◌, ℕ, ◌<◌, true, List, [], ◌∷◌, length, None, Ok, Err}
 use Rattle.cf_gen.specs.Workload.{gen_source}
 use Rattle.cf_lex.specs.declared.token.Token.{Token}
 use Rattle.cf_lex.specs.Editions.{edition_of}
@@ -25,7 +25,7 @@ use Rattle.cf_form.specs.declared.fault.FormFault.TheVariants as form
 use Rattle.cf_linear.specs.declared.refusal.Refusal.{Refusal}
 use Rattle.cf_linear.specs.declared.refusal.Refusal.TheVariants.{Limit}
 use Rattle.cf_linear.specs.declared.refusal.LimitKind.TheVariants.{Cases}
-use Rattle.cf_build.specs.Chooses.{all_chooses, IsFirstRefused}
+use Rattle.cf_build.specs.Chooses.{all_chooses, by_number, first_refused, IsFirstRefused}
 use Rattle.cf_build.specs.declared.fault.BuildFault.{BuildFault}
 use Rattle.cf_build.specs.declared.fault.BuildFault.TheVariants as build
 use Rattle.cf_steps.specs.Blocks.{BlockTree}
@@ -34,8 +34,10 @@ use Rattle.cf_steps.specs.Spelling.{AreBlocks}
 use Rattle.cf_form.specs.Branches.{Branch}
 use Rattle.cf_cert.specs.declared.verdict.Verdict.TheVariants.{Rejected}
 use Rattle.cf_cert.specs.declared.verdict.Why.{Why}
-use Rattle.cf_words.specs.Commands.{Command, compile, run, pre, check, exec, prove, verify, gen}
+use Rattle.cf_print.specs.declared.language.Language.{Language}
+use Rattle.cf_words.specs.Commands.{Command, compile, run, pre, check, exec, prove, emit, verify, gen}
 use Rattle.cf_answer.specs.Branches.{AreBranched, IsVerdictIn}
+use Rattle.cf_answer.specs.Emitting.{lacks_sets}
 use Rattle.cf_answer.specs.Limits.{TextKind, of_source, of_target, most_of}
 use Rattle.cf_answer.specs.Sources.{HasTokens, Spelled, IsTypedBy, IsTypedSource, IsTypedTree}
 use Rattle.cf_answer.specs.declared.fault.Fault.{Fault}
@@ -89,6 +91,12 @@ pub data IsBadRun (edition : Edition) (program : List RawItemTree) : Fault → T
   bad : (f : Fault) → IsBadProgram edition program f → ((p : Place) → f ≡ fault.Rule (NotLinear p) → ⊥) → IsBadRun edition program f
   broken_late : (p : Place) (f : Fault) → checked edition Plain program ≡ Err (NotLinear p) → IsBroken edition Late program f → IsBadRun edition program f
 
+-- for which faults `emit` refuses it: as a program, or where no choose is refused and it has no form in the language
+pub data IsBadEmission (language : Language) (edition : Edition) (program : List RawItemTree) : Fault → Type 0 where
+  bad_program : (f : Fault) → IsBadProgram edition program f → IsBadEmission language edition program f
+  no_sets : (typed : TypedTree) → IsTypedBy edition Plain program typed → first_refused (by_number (all_chooses typed.defs)) ≡ None →
+      lacks_sets language typed ≡ true → IsBadEmission language edition program fault.NoSetsInC
+
 -- for which fault a target is refused
 pub data IsBadTarget (t : TargetTree) : Fault → Type 0 where
   untyped : (IsTypedTree t → ⊥) → IsBadTarget t fault.BadTarget
@@ -97,12 +105,15 @@ pub data IsBadTarget (t : TargetTree) : Fault → Type 0 where
 abbrev pub CausesOf : (Edition → List RawItemTree → Fault → Type 0) → List ℕ → Fault → Type 0
 CausesOf Bad text f = Causes (of_source (edition_of text)) (IsProgram (edition_of text)) (program_of (edition_of text) 200) (Bad (edition_of text)) text f
 
--- the fault for which the text of a source is refused, also by `run`, and that of a target
+-- the fault for which the text of a source is refused, also by `run` and by `emit`, and that of a target
 abbrev pub IsRefusedSource : List ℕ → Fault → Type 0
 IsRefusedSource text f = CausesOf IsBadProgram text f
 
 abbrev pub IsRefusedRun : List ℕ → Fault → Type 0
 IsRefusedRun text f = CausesOf IsBadRun text f
+
+abbrev pub IsRefusedEmission : Language → List ℕ → Fault → Type 0
+IsRefusedEmission language text f = CausesOf (IsBadEmission language) text f
 
 abbrev pub IsRefusedTarget : List ℕ → Fault → Type 0
 IsRefusedTarget text f = Causes (of_target (edition_of text)) (IsTarget (edition_of text)) (target_of (edition_of text) 500) IsBadTarget text f
@@ -136,9 +147,10 @@ abbrev pub Refuses : Command → List (List ℕ) → Fault → Type 0
 Refuses (compile flags name) (text ∷ []) f = IsRefusedSource text f
 Refuses (run flags form name) (text ∷ []) f = IsRefusedRun text f
 Refuses (pre name) (text ∷ []) f = IsRefusedSource text f
-Refuses (check name) (text ∷ []) f = IsRefusedSource text f
+Refuses (check strictness name) (text ∷ []) f = IsRefusedSource text f
 Refuses (exec form name) (text ∷ []) f = IsRefusedTarget text f
 Refuses (prove name) (text ∷ []) f = IsRefusedSource text f
+Refuses (emit e name) (text ∷ []) f = IsRefusedEmission e.language text f
 Refuses (verify name steps_name) (source ∷ steps ∷ []) f = IsUnverified source steps f
 Refuses (gen n) [] f = IsRefusedSource (gen_source n) f
 Refuses command files f = ⊥

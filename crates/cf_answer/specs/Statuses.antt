@@ -8,7 +8,7 @@ use Rattle.cf_answer.specs.declared.fault.Fault.{Fault}
 use Rattle.cf_answer.specs.declared.fault.Fault.TheVariants as fault
 use Rattle.cf_answer.specs.declared.status.Status.{Status}
 use Rattle.cf_answer.specs.declared.status.Status.TheVariants.{Done, Usage, File, Input, Output, Text}
-use Rattle.cf_answer.specs.declared.status.Status.TheVariants.{Types, NotLinear, Past, Limit, InputLong, NoMemory, Rejected}
+use Rattle.cf_answer.specs.declared.status.Status.TheVariants.{Types, NotLinear, Past, Limit, InputLong, NoMemory, Rejected, AnswersNo, AnswersUndecided}
 
 abbrev pub code_of : Status → ℕ
 code_of Done = 0
@@ -24,6 +24,8 @@ code_of Limit = 10
 code_of InputLong = 11
 code_of NoMemory = 12
 code_of Rejected = 13
+code_of AnswersNo = 14
+code_of AnswersUndecided = 15
 
 abbrev pub refusal_status : Refusal → Status
 refusal_status refusal.Past = Past
@@ -55,6 +57,7 @@ fault_status (fault.Rule e) = rule_status e
 fault_status (fault.Choose n r) = refusal_status r
 fault_status (fault.Weight f w) = Limit
 fault_status (fault.Depth f d) = Limit
+fault_status fault.NoSetsInC = Types
 fault_status fault.BadTarget = Types
 fault_status (fault.Steps e) = Text
 fault_status (fault.Rejected n i j w) = Rejected
@@ -62,6 +65,8 @@ fault_status fault.Input = Input
 fault_status fault.Output = Output
 fault_status fault.InputTooLong = InputLong
 fault_status fault.OutputTooLong = Limit
+fault_status (fault.AnswersNo n) = AnswersNo
+fault_status (fault.AnswersUndecided n) = AnswersUndecided
 fault_status fault.NoMemory = NoMemory
 
 abbrev pub status_of : Result (Unit {0}) Fault → Status

@@ -1,5 +1,5 @@
 -- What each fault writes.
-use Rattle.std.specs.Prelude.{ℕ, List, [], ◌∷◌, codes, decimal, Result, Ok, Err}
+use Rattle.std.specs.Prelude.{ℕ, ◌==◌, List, [], ◌∷◌, codes, decimal, Result, Ok, Err, if◌then◌else◌}
 use Rattle.std.specs.List.{concat}
 use Rattle.cf_tree.specs.declared.base.Place.{Place}
 use Rattle.cf_linear.specs.declared.refusal.Refusal.{Refusal}
@@ -76,9 +76,19 @@ abbrev pub rejected_line : ℕ → ℕ → ℕ → Why → List ℕ
 rejected_line n i j w =
     concat (codes "choose " ∷ decimal n ∷ codes ": rejected at case " ∷ decimal i ∷ codes " step " ∷ decimal j ∷ codes ": " ∷ why_text w ∷ codes "\n" ∷ [])
 
+abbrev pub answered_line : List ℕ → List ℕ → List ℕ → List ℕ
+answered_line count verb so = concat (codes "check: " ∷ count ∷ verb ∷ so ∷ codes "\n" ∷ [])
+
+-- check: N answers are so
+abbrev pub answers_verb : ℕ → List ℕ
+answers_verb n = if n == 1 then codes " answer is " else codes " answers are "
+
+abbrev pub answers_line : ℕ → List ℕ → List ℕ
+answers_line n so = answered_line (decimal n) (answers_verb n) so
+
 -- where the words are no command
 abbrev pub usage_words : List ℕ
-usage_words = codes "usage: comfusy compile|pre|check|run|exec|prove FILE, or comfusy verify FILE STEPS, or comfusy gen N, or comfusy --help"
+usage_words = codes "usage: comfusy compile|pre|check|run|exec|prove FILE, or comfusy emit LANG FILE, or comfusy verify FILE STEPS, or comfusy gen N, or comfusy --help"
 
 abbrev pub fault_line : Fault → List ℕ
 fault_line fault.Usage = words_line usage_words
@@ -91,6 +101,7 @@ fault_line (fault.Rule e) = rule_line e
 fault_line (fault.Choose n r) = choose_line n r
 fault_line (fault.Weight f w) = count_line (codes "Weight") w
 fault_line (fault.Depth f d) = count_line (codes "Depth") d
+fault_line fault.NoSetsInC = words_line (codes "no sets in c")
 fault_line fault.BadTarget = words_line (codes "target not well typed")
 fault_line (fault.Steps e) = steps_line e
 fault_line (fault.Rejected n i j w) = rejected_line n i j w
@@ -98,6 +109,8 @@ fault_line fault.Input = words_line (codes "cannot read input")
 fault_line fault.Output = words_line (codes "cannot write output")
 fault_line fault.InputTooLong = words_line (codes "input too long")
 fault_line fault.OutputTooLong = words_line (codes "text too long")
+fault_line (fault.AnswersNo n) = answers_line n (codes "no")
+fault_line (fault.AnswersUndecided n) = answers_line n (codes "undecided")
 fault_line fault.NoMemory = words_line (codes "no memory")
 
 -- what goes to the sink of errors: the line of a fault, or nothing

@@ -8,11 +8,11 @@ use Rattle.cf_tree.specs.RelTree.{RelTree, rel_or, rel_not}
 use Rattle.cf_tree.specs.Values.{Value, number, truth, elements, number_of}
 use Rattle.cf_linear.specs.declared.refusal.Refusal.{Refusal}
 use Rattle.cf_linear.specs.Chooses.{limit}
+use Rattle.cf_decide.specs.Answers.{SaysExistence, SaysUniqueness}
 use Rattle.cf_eval.specs.Seen.{plains}
 use Rattle.cf_form.specs.Branches.{Branch, is_among, values_in}
 use Rattle.cf_form.specs.Told.{ToldBranch, ToldChoose}
 use Rattle.cf_warn.specs.Questions.{base_at, parameters}
-use Rattle.cf_warn.specs.Verdicts.{IsExistence, IsUniqueness}
 use Rattle.cf_warn.specs.declared.answer.Doubt.TheVariants.{Refused}
 use Rattle.cf_warn.specs.declared.answer.ExistenceAnswer.{ExistenceAnswer}
 use Rattle.cf_warn.specs.declared.answer.ExistenceAnswer.TheVariants as existence
@@ -78,13 +78,13 @@ shown_values (b ∷ bs) [] = []
 shown_values (b ∷ bs) (v ∷ vs) = shown_value b v ∷ shown_values bs vs
 
 -- ---- the answers of a branch
--- the verdict of a question that passes no limit as a choose, or its first limit
+-- what is said of a question that passes no limit as a choose, or its first limit
 abbrev pub IsWithinExistence : Option Refusal → List Base → List Base → RelTree → ExistenceAnswer → Type 0
-IsWithinExistence None scope outputs rel e = IsExistence scope outputs rel e
+IsWithinExistence None scope outputs rel e = SaysExistence scope outputs rel e
 IsWithinExistence (Some r) scope outputs rel e = e ≡ existence.Undecided (Refused r)
 
 abbrev pub IsWithinUniqueness : Option Refusal → List Base → List Base → ℕ → RelTree → UniquenessAnswer → Type 0
-IsWithinUniqueness None scope outputs shown rel u = IsUniqueness scope outputs shown rel u
+IsWithinUniqueness None scope outputs shown rel u = SaysUniqueness scope outputs shown rel u
 IsWithinUniqueness (Some r) scope outputs shown rel u = u ≡ uniqueness.Undecided (Refused r)
 
 -- the same answer, where samples are named
@@ -144,12 +144,6 @@ first_uniqueness (uniqueness.Undecided d) (uniqueness.Undecided later) = uniquen
 abbrev pub ComeTo : {A : Type 0} → (ToldBranch → A → Type 0) → (A → A → A) → A → List ToldBranch → A → Type 0
 ComeTo Is first before [] all = all ≡ before
 ComeTo {A} Is first before (b ∷ bs) all = (told : A) × Is b told × ComeTo Is first (first before told) bs all
-
-abbrev pub IsToldExistence : Asked → ToldChoose → ExistenceAnswer → Type 0
-IsToldExistence a c e = ComeTo (IsBranchExistence a) first_existence existence.Always c.branches e
-
-abbrev pub IsToldUniqueness : Asked → ToldChoose → UniquenessAnswer → Type 0
-IsToldUniqueness a c u = ComeTo (IsBranchUniqueness a) first_uniqueness uniqueness.Unique c.branches u
 
 -- ---- which choose is told of
 -- what is told of the choose of this number

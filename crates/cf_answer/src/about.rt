@@ -16,14 +16,15 @@ const HELP: &[u8] = b"usage: comfusy COMMAND ..\n\
 \x20 compile FILE [--plain] [--stats]                write the compiled program, the target\n\
 \x20 run FILE [--plain] [--stats] [--key] [--jsonl]  answer the lines of the input by the program\n\
 \x20 pre FILE                                        write for which inputs each choose has outputs\n\
-\x20 check FILE                                      write whether there always are outputs, and one only\n\
+\x20 check FILE [--strict [--unique]]                write whether there always are outputs, and one only\n\
 \x20 exec FILE [--key] [--jsonl]                     answer the lines of the input by a target\n\
 \x20 prove FILE                                      write the steps by which each choose was solved\n\
+\x20 emit LANG FILE [--main] [--name NAME]           write the program as a file of c, python or js\n\
 \x20 verify FILE STEPS                               check such steps\n\
 \x20 gen N                                           run a generated workload\n\
 \x20 --help, -h                                      write this\n\
 \x20 --version                                       write the version, and the editions of the language\n\
-FILE holds a source, and for exec a target; compile, pre, check and prove take - for the standard input.\n\
+FILE holds a source, and for exec a target; compile, pre, check, prove and emit take - for the standard input.\n\
 The guide is docs/GUIDE.md; man comfusy has all the rest.\n";
 
 /// Writes each command with its flags, and where the guide is.

@@ -3,6 +3,7 @@ ghost use Rattle.std.specs.Prelude.{◌≡◌, ◌≤◌, ◌<◌, ◌-◌, ◌^
 ghost use Rattle.std.specs.List.Sorted.{IsNonDecreasingBy};
 ghost use Rattle.cf_io.specs.Seen.{SourceSeen};
 ghost use Rattle.cf_lex.specs.Editions.{edition_of as the_edition_of};
+ghost use Rattle.cf_tree.specs.declared.base.Edition.{Edition as TheEdition};
 ghost use Rattle.cf_tree.specs.declared.base.Edition.TheVariants.{Two, Three};
 ghost use Rattle.cf_pass.specs.Passes.{Told};
 ghost use Rattle.cf_words.specs.Commands.{check as the_check};
@@ -11,7 +12,7 @@ ghost use Rattle.cf_answer.specs.Limits.{text_limit};
 ghost use Rattle.cf_answer.specs.Outside.{streams};
 ghost use Rattle.cf_answer.specs.Statuses.{status_of as the_status_of, IsEarly};
 ghost use Rattle.cf_tree.specs.Params.{names_of};
-ghost use Rattle.cf_form.specs.Told.{ToldChoose};
+ghost use Rattle.cf_form.specs.Told.{HoldConditions, ToldChoose};
 ghost use Rattle.cf_form.specs.ToldView.{told_choose};
 ghost use Rattle.cf_match.specs.Matches.{MatchTree, match_tree};
 ghost use Rattle.cf_tree.specs.ChooseTree.{ChooseTree};
@@ -33,6 +34,10 @@ use crate::source::{read_formed, read_lowered};
 use crate::told_check::{
     Asked, Telling, is_told, named_levels, told_existence, told_of, told_uniqueness,
 };
+use crate::unmet::{
+    Answered, Unmet, end_of, nothing_answered, nothing_unmet, unmet_cover, unmet_existence,
+    unmet_for, unmet_uniqueness, with_answered,
+};
 use crate::verdict::{put_cover, put_existence, put_uniqueness};
 use crate::write::write_text;
 use cf_build::{SolvedChoose, solve_all};
@@ -44,7 +49,15 @@ use cf_tree::{Edition, NoMemory};
 use cf_warn::{
     Cover, ExistenceAnswer, UniquenessAnswer, covers, existence, parameters, uniqueness,
 };
+use cf_words::Strictness;
 use std::alloc::Global;
+
+// The lines of a source, and what they answer.
+#[derive(Drop)]
+struct AnsweredText {
+    text: Vec<u8>,
+    answered: Answered,
+}
 
 fn put_existence_line(
     text: &mut Vec<u8>,
@@ -91,11 +104,12 @@ fn check_existence(
     choose: &SolvedChoose<'_>,
     levels: &[u32],
     text: &mut Vec<u8>,
-) -> Result<(), NoMemory>
-    ensures { OnOk result (AddsExistence choose.now levels.now text.old.items text.new.items) }
+) -> Result<Unmet, NoMemory>
+    ensures { IfOk result (AddsExistence choose.now levels.now text.old.items text.new.items) }
 {
     let answer = existence(alloc, &choose.solved)?;
-    put_existence_line(text, choose, levels, &answer)
+    put_existence_line(text, choose, levels, &answer)?;
+    Ok(unmet_existence(&answer))
 }
 
 // Asks whether they are the only ones, and adds the line.
@@ -104,11 +118,12 @@ fn check_uniqueness(
     choose: &SolvedChoose<'_>,
     levels: &[u32],
     text: &mut Vec<u8>,
-) -> Result<(), NoMemory>
-    ensures { OnOk result (AddsUniqueness choose.now levels.now text.old.items text.new.items) }
+) -> Result<Unmet, NoMemory>
+    ensures { IfOk result (AddsUniqueness choose.now levels.now text.old.items text.new.items) }
 {
     let answer = uniqueness(alloc, &choose.solved, choose.solved.outputs().len())?;
-    put_uniqueness_line(text, choose, levels, &answer)
+    put_uniqueness_line(text, choose, levels, &answer)?;
+    Ok(unmet_uniqueness(&answer))
 }
 
 // Asks whether the arms of a match cover all numbers, and adds the line.
@@ -117,13 +132,13 @@ fn check_cover(
     number: u32,
     info: &MatchInfo,
     text: &mut Vec<u8>,
-) -> Result<(), NoMemory>
+) -> Result<Unmet, NoMemory>
     requires { AreClasses info.now.classes.items }
-    ensures { OnOk result (AddsCover number info.now.classes.items text.old.items text.new.items) }
+    ensures { IfOk result (AddsCover number info.now.classes.items text.old.items text.new.items) }
 {
     let answer = covers(alloc, &info.classes)?;
     put_cover_line(text, number, &answer)?;
-    Ok(())
+    Ok(unmet_cover(&answer))
 }
 
 // Adds the lines of a choose of the source of which nothing is told.
@@ -131,14 +146,17 @@ fn check_choose(
     alloc: Global,
     choose: &SolvedChoose<'_>,
     text: &mut Vec<u8>,
-) -> Result<(), NoMemory>
-    ensures { OnOk result ((matches : List MatchTree) (told : List ToldChoose) → IsOwn matches choose.now.choose.number →
-        the_told_of told choose.now.choose.number ≡ None → AddsCheck matches told choose.now text.old.items text.new.items) }
+) -> Result<Answered, NoMemory>
+    ensures { IfOk result (λ a. (edition : TheEdition) (matches : List MatchTree) (told : List ToldChoose) → IsOwn matches choose.now.choose.number →
+        the_told_of told choose.now.choose.number ≡ None → AddsCheck edition matches told choose.now text.old.items text.new.items a) }
 {
     let levels = parameters(alloc, &choose.solved)?;
-    check_existence(alloc, choose, &levels, text)?;
-    check_uniqueness(alloc, choose, &levels, text)?;
-    Ok(())
+    let exists = check_existence(alloc, choose, &levels, text)?;
+    let unique = check_uniqueness(alloc, choose, &levels, text)?;
+    Ok(Answered {
+        existence: exists,
+        uniqueness: unique,
+    })
 }
 
 // Adds the lines of a choose of the source of which this is told.
@@ -148,8 +166,8 @@ fn check_told(
     choose: &SolvedChoose<'_>,
     info: &ChooseInfo,
     text: &mut Vec<u8>,
-) -> Result<(), NoMemory>
-    ensures { OnOk result (AddsTold choose.now (told_choose info.now) text.old.items text.new.items) }
+) -> Result<Answered, NoMemory>
+    ensures { IfOk result (AddsTold choose.now (told_choose info.now) text.old.items text.new.items) }
 {
     let scope = choose.solved.scope();
     let levels = named_levels(alloc, scope.len(), info)?;
@@ -162,7 +180,11 @@ fn check_told(
     let exists = told_existence(alloc, &asked, &info.branches)?;
     put_existence_line(text, choose, &levels, &exists)?;
     let unique = told_uniqueness(alloc, &asked, &info.branches)?;
-    put_uniqueness_line(text, choose, &levels, &unique)
+    put_uniqueness_line(text, choose, &levels, &unique)?;
+    Ok(Answered {
+        existence: unmet_existence(&exists),
+        uniqueness: unmet_uniqueness(&unique),
+    })
 }
 
 // Adds the lines of a choose of the source, by what is told of it.
@@ -172,9 +194,9 @@ fn check_own(
     told: &[ChooseInfo],
     choose: &SolvedChoose<'_>,
     text: &mut Vec<u8>,
-) -> Result<(), NoMemory>
-    ensures { OnOk result ((matches : List MatchTree) → IsOwn matches choose.now.choose.number →
-        AddsCheck matches (map told_choose told.now) choose.now text.old.items text.new.items) }
+) -> Result<Answered, NoMemory>
+    ensures { IfOk result (λ a. (edition : TheEdition) (matches : List MatchTree) → IsOwn matches choose.now.choose.number →
+        AddsCheck edition matches (map told_choose told.now) choose.now text.old.items text.new.items a) }
 {
     match told_of(told, choose.choose.number) {
         Telling::Told(info) => check_told(alloc, choose, info, text),
@@ -188,12 +210,17 @@ fn check_arm(
     matches: &Matches<'_>,
     choose: &SolvedChoose<'_>,
     text: &mut Vec<u8>,
-) -> Result<(), NoMemory>
+) -> Result<Answered, NoMemory>
     requires { (m : MatchTree) × Contains (map match_tree matches.now.infos.now) m × IsArm m choose.now.choose.number }
-    ensures { OnOk result ((told : List ToldChoose) → AddsCheck (map match_tree matches.now.infos.now) told choose.now text.old.items text.new.items) }
+    ensures { IfOk result (λ a. (edition : TheEdition) (told : List ToldChoose) →
+        AddsCheck edition (map match_tree matches.now.infos.now) told choose.now text.old.items text.new.items a) }
 {
     let levels = parameters(alloc, &choose.solved)?;
-    check_uniqueness(alloc, choose, &levels, text)
+    let unique = check_uniqueness(alloc, choose, &levels, text)?;
+    Ok(Answered {
+        existence: nothing_unmet(),
+        uniqueness: unique,
+    })
 }
 
 // Adds the line of a match.
@@ -203,14 +230,18 @@ fn check_match(
     info: &MatchInfo,
     choose: &SolvedChoose<'_>,
     text: &mut Vec<u8>,
-) -> Result<(), NoMemory>
+) -> Result<Answered, NoMemory>
     requires among { Contains (map match_tree matches.now.infos.now) (match_tree info.now) }
     requires number { IsMatch (match_tree info.now) choose.now.choose.number }
     requires classes { AreClasses info.now.classes.items }
-    ensures { OnOk result ((told : List ToldChoose) → AddsCheck (map match_tree matches.now.infos.now) told choose.now text.old.items text.new.items) }
+    ensures { IfOk result (λ a. (edition : TheEdition) (told : List ToldChoose) →
+        AddsCheck edition (map match_tree matches.now.infos.now) told choose.now text.old.items text.new.items a) }
 {
-    check_cover(alloc, choose.choose.number, info, text)?;
-    Ok(())
+    let covered = check_cover(alloc, choose.choose.number, info, text)?;
+    Ok(Answered {
+        existence: covered,
+        uniqueness: nothing_unmet(),
+    })
 }
 
 // Adds the lines of a choose, by what its number is of.
@@ -220,9 +251,10 @@ fn check_number(
     told: &[ChooseInfo],
     choose: &SolvedChoose<'_>,
     text: &mut Vec<u8>,
-) -> Result<(), NoMemory>
+) -> Result<Answered, NoMemory>
     requires { AreMatches matches.now.infos.now matches.now.arms.now }
-    ensures { OnOk result (AddsCheck (map match_tree matches.now.infos.now) (map told_choose told.now) choose.now text.old.items text.new.items) }
+    ensures { IfOk result (λ a. (edition : TheEdition) →
+        AddsCheck edition (map match_tree matches.now.infos.now) (map told_choose told.now) choose.now text.old.items text.new.items a) }
 {
     match origin_of(matches, choose.choose.number) {
         Origin::Choose => check_own(alloc, told, choose, text),
@@ -240,12 +272,13 @@ fn check_next(
     before: u32,
     choose: &SolvedChoose<'_>,
     text: &mut Vec<u8>,
-) -> Result<(), NoMemory>
+) -> Result<Answered, NoMemory>
     requires { AreMatches matches.now.infos.now matches.now.arms.now }
-    ensures { OnOk result (AddsCheckBehind (map match_tree matches.now.infos.now) (map told_choose told.now) before choose.now text.old.items text.new.items) }
+    ensures { IfOk result (λ a. (edition : TheEdition) →
+        AddsCheckBehind edition (map match_tree matches.now.infos.now) (map told_choose told.now) before choose.now text.old.items text.new.items a) }
 {
     if is_later_branch(told, before, choose.choose.number) {
-        return Ok(());
+        return Ok(nothing_answered());
     }
     check_number(alloc, matches, told, choose, text)
 }
@@ -262,18 +295,20 @@ fn check_each(
     matches: &Matches<'_>,
     told: &[ChooseInfo],
     chooses: &[SolvedChoose<'_>],
-) -> Result<Vec<u8>, NoMemory>
+) -> Result<AnsweredText, NoMemory>
     requires { AreMatches matches.now.infos.now matches.now.arms.now }
-    ensures { IfOk result (λ text. (qs : List ChooseTree) → AreSolved qs chooses.now →
-        AreChecksBehind (map match_tree matches.now.infos.now) (map told_choose told.now) 0 qs text.items) }
+    ensures { IfOk result (λ c. (edition : TheEdition) (qs : List ChooseTree) → AreSolved qs chooses.now → HoldConditions (map told_choose told.now) →
+        AreChecksBehind edition (map match_tree matches.now.infos.now) (map told_choose told.now) 0 qs c.text.items c.answered) }
 {
     let mut text = Vec::new(alloc);
+    let mut answered = nothing_answered();
     let mut before: u32 = 0;
     for choose in chooses {
-        check_next(alloc, matches, told, before, choose, &mut text)?;
+        let more = check_next(alloc, matches, told, before, choose, &mut text)?;
+        answered = with_answered(&answered, &more)?;
         before = choose.choose.number;
     }
-    Ok(text)
+    Ok(AnsweredText { text, answered })
 }
 
 // The lines of solved chooses in order, in a program that was made of one with these matches.
@@ -282,11 +317,11 @@ fn lines(
     infos: &[MatchInfo],
     told: &[ChooseInfo],
     chooses: &[SolvedChoose<'_>],
-) -> Result<Vec<u8>, NoMemory>
+) -> Result<AnsweredText, NoMemory>
     requires order { IsNonDecreasingBy (λ m. m.number) infos.now }
     requires classes { All (λ m. AreClasses m.classes.items) infos.now }
-    ensures { IfOk result (λ text. (qs : List ChooseTree) → AreSolved qs chooses.now →
-        AreChecksBehind (map match_tree infos.now) (map told_choose told.now) 0 qs text.items) }
+    ensures { IfOk result (λ c. (edition : TheEdition) (qs : List ChooseTree) → AreSolved qs chooses.now → HoldConditions (map told_choose told.now) →
+        AreChecksBehind edition (map match_tree infos.now) (map told_choose told.now) 0 qs c.text.items c.answered) }
 {
     let arms = arms_of(alloc, infos)?;
     check_each(alloc, &Matches { infos, arms: &arms }, told, chooses)
@@ -294,48 +329,48 @@ fn lines(
 
 // The lines of the chooses and matches of a program in the order of their numbers, where this is told of
 // its chooses, or the choose for which it is refused.
-fn checks(alloc: Global, lowered: &Lowered, told: &[ChooseInfo]) -> Result<Vec<u8>, Fault>
+fn checks(alloc: Global, lowered: &Lowered, told: &[ChooseInfo]) -> Result<AnsweredText, Fault>
     requires { All (λ m. AreClasses m.classes.items) lowered.now.matches.items }
-    ensures { (source : List ℕ) (s : IsLoweredSource source lowered.now) →
-        IsVerdict (λ text. AreChecks (map told_choose told.now) s.typed text.items) (IsRefusedSource source) result }
+    ensures { (edition : TheEdition) (source : List ℕ) (s : IsLoweredSource source lowered.now) → HoldConditions (map told_choose told.now) →
+        IsVerdict (λ c. AreChecks edition (map told_choose told.now) s.typed c.text.items c.answered) (IsRefusedSource source) result }
 {
     let chooses = solve_all(alloc, lowered.typed())?;
-    let text = lines(alloc, lowered.matches(), told, &chooses)?;
-    Ok(text)
+    let checks = lines(alloc, lowered.matches(), told, &chooses)?;
+    Ok(checks)
 }
 
 // The lines of a source of language 2, of whose chooses nothing is told.
-fn checks_in_two(alloc: Global, text: &[u8]) -> Result<Vec<u8>, Fault>
+fn checks_in_two(alloc: Global, text: &[u8]) -> Result<AnsweredText, Fault>
     requires short { length text.now ≤ text_limit }
     requires place { length text.now < 2 ^ 32 - 1 }
     requires edition { the_edition_of text.now ≡ Two }
-    ensures { IsVerdict (λ checks. AreSourceChecks text.now checks.items) (IsRefusedSource text.now) result }
+    ensures { IsVerdict (λ c. AreSourceChecks text.now c.text.items c.answered) (IsRefusedSource text.now) result }
 {
     let lowered = read_lowered(alloc, text)?;
-    let text = checks(alloc, &lowered, &[])?;
-    Ok(text)
+    let checks = checks(alloc, &lowered, &[])?;
+    Ok(checks)
 }
 
 // The lines of a source of edition 3.
-fn checks_in_three(alloc: Global, text: &[u8]) -> Result<Vec<u8>, Fault>
+fn checks_in_three(alloc: Global, text: &[u8]) -> Result<AnsweredText, Fault>
     requires short { length text.now ≤ text_limit }
     requires place { length text.now < 2 ^ 32 - 1 }
     requires edition { the_edition_of text.now ≡ Three }
-    ensures { IsVerdict (λ checks. AreSourceChecks text.now checks.items) (IsRefusedSource text.now) result }
+    ensures { IsVerdict (λ c. AreSourceChecks text.now c.text.items c.answered) (IsRefusedSource text.now) result }
 {
     let formed = read_formed(alloc, text)?;
     let typed = formed.typed();
     // for the proof: the rules of a typed program are told by its methods alone.
     let _ = typed.main();
     let lowered = lower(alloc, typed)?;
-    let text = checks(alloc, &lowered, formed.chooses())?;
-    Ok(text)
+    let checks = checks(alloc, &lowered, formed.chooses())?;
+    Ok(checks)
 }
 
-fn checks_of(alloc: Global, text: &[u8]) -> Result<Vec<u8>, Fault>
+fn checks_of(alloc: Global, text: &[u8]) -> Result<AnsweredText, Fault>
     requires short { length text.now ≤ text_limit }
     requires place { length text.now < 2 ^ 32 - 1 }
-    ensures { IsVerdict (λ checks. AreSourceChecks text.now checks.items) (IsRefusedSource text.now) result }
+    ensures { IsVerdict (λ c. AreSourceChecks text.now c.text.items c.answered) (IsRefusedSource text.now) result }
 {
     match edition_of(text) {
         Edition::Two => checks_in_two(alloc, text),
@@ -345,13 +380,25 @@ fn checks_of(alloc: Global, text: &[u8]) -> Result<Vec<u8>, Fault>
 
 /// Writes for each choose of a source text whether outputs always exist and whether they are the only
 /// ones, and for each match whether its arms cover all numbers.
-pub fn write_checks<O: Sink>(alloc: Global, text: &[u8], out: &mut O) -> Result<(), Fault>
+///
+/// # Errors
+/// Behind all that is written, where so much is asked of the answers: `AnswersNo` where some are no, else
+/// `AnswersUndecided` where some are undecided. Before it those for which the source is refused; `Output`
+/// and `NoMemory`.
+pub fn write_checks<O: Sink>(
+    alloc: Global,
+    strictness: Strictness,
+    text: &[u8],
+    out: &mut O,
+) -> Result<(), Fault>
     requires short { length text.now ≤ text_limit }
     requires place { length text.now < 2 ^ 32 - 1 }
-    ensures answers { (file : List ℕ) (given : List Told) (input : SourceSeen) → AnswersOn (the_check file) given given (text.now ∷ [])
+    ensures answers { (file : List ℕ) (given : List Told) (input : SourceSeen) → AnswersOn (the_check strictness file) given given (text.now ∷ [])
         (streams input (O.seen out.old)) (streams input (O.seen out.new)) result }
     ensures unwritten { IsEarly (the_status_of result) → out.new ≡ out.old }
 {
-    let text = checks_of(alloc, text)?;
-    write_text(out, &text)
+    let checks = checks_of(alloc, text)?;
+    let unmet = unmet_for(strictness, &checks.answered)?;
+    write_text(out, &checks.text)?;
+    end_of(&unmet)
 }

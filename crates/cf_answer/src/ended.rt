@@ -102,8 +102,9 @@ impl Ended {
             CommandKind::Compile
             | CommandKind::Run
             | CommandKind::Pre
-            | CommandKind::Check
-            | CommandKind::Prove => Ended::on_source(alloc, &source, answer),
+            | CommandKind::Check(_)
+            | CommandKind::Prove
+            | CommandKind::Emit(_) => Ended::on_source(alloc, &source, answer),
         }
     }
 
@@ -141,16 +142,17 @@ fn is_deserted<O: Sink>(out: &O, text: &[u8], answer: &Result<(), Fault>) -> boo
 }
 
 // Which relations are linear where a command refuses a source for its rules.
-fn linearity_of(kind: CommandKind) -> Linearity
-    ensures { (flags : Flags) (form : ReplyForm) (file : List ℕ) → result ≡ the_linearity_of (command_on kind flags form file) }
+fn linearity_of(kind: CommandKind<'_>) -> Linearity
+    ensures { (flags : Flags) (form : ReplyForm) (file : List ℕ) → result ≡ the_linearity_of (command_on kind.entry flags form file) }
 {
     match kind {
         CommandKind::Run => Linearity::Late,
         CommandKind::Compile
         | CommandKind::Pre
-        | CommandKind::Check
+        | CommandKind::Check(_)
         | CommandKind::Exec
-        | CommandKind::Prove => Linearity::Plain,
+        | CommandKind::Prove
+        | CommandKind::Emit(_) => Linearity::Plain,
     }
 }
 

@@ -43,6 +43,8 @@ pub enum Fault {
         function: u32,
         depth: u64,
     },
+    /// A set stands in the program, and it is to be written in C.
+    NoSetsInC,
     /// The target that the file spells is not well typed.
     BadTarget,
     /// The text of the steps file is refused.
@@ -61,6 +63,10 @@ pub enum Fault {
     InputTooLong,
     /// What was to be written is longer than its readers take.
     OutputTooLong,
+    /// All was written, and so many answers of a strict `check` are no.
+    AnswersNo(u32),
+    /// All was written, no answer of a strict `check` is no, and so many are undecided.
+    AnswersUndecided(u32),
     NoMemory,
 }
 

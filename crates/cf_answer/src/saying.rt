@@ -53,6 +53,7 @@ pub(crate) fn said(
         Fault::Depth { function, depth } => about_depth(alloc, source, *function, *depth),
         Fault::Usage
         | Fault::File
+        | Fault::NoSetsInC
         | Fault::BadTarget
         | Fault::Steps(_)
         | Fault::Rejected { .. }
@@ -60,6 +61,8 @@ pub(crate) fn said(
         | Fault::Output
         | Fault::InputTooLong
         | Fault::OutputTooLong
+        | Fault::AnswersNo(_)
+        | Fault::AnswersUndecided(_)
         | Fault::NoMemory => Ok(None),
     }
 }

@@ -59,8 +59,8 @@ pub(crate) fn parsed(alloc: Global, edition: Edition, text: &[u8]) -> Result<Pro
     }
 }
 
-// A program with its types, and with the forms of language 2.
-fn typed(alloc: Global, edition: Edition, program: &Program) -> Result<Typed, Fault>
+/// A program with its types, and with the forms of language 2.
+pub(crate) fn typed(alloc: Global, edition: Edition, program: &Program) -> Result<Typed, Fault>
     requires { IsSpelledProgram edition (program_tree program.now) }
     ensures { IsVerdict (λ x. IsTypedBy edition Plain (program_tree program.now) (typed_tree x)) (IsBroken edition Plain (program_tree program.now)) result }
 {

@@ -21,7 +21,8 @@ pub enum Status {
     Output,
     /// The text spells no program, or no target.
     Text,
-    /// A rule on names or types is broken, or a target is not well typed.
+    /// A rule on names or types is broken, a target is not well typed, or a language has not the types of a
+    /// program.
     Types,
     NotLinear,
     /// A coefficient of a choose passes the limit of numbers.
@@ -33,6 +34,10 @@ pub enum Status {
     NoMemory,
     /// The steps of an elimination are not accepted.
     Rejected,
+    /// All was written, and some answer of a strict `check` is no.
+    AnswersNo,
+    /// All was written, no answer of a strict `check` is no, and some is undecided.
+    AnswersUndecided,
 }
 
 impl Status {
@@ -54,6 +59,8 @@ impl Status {
             Status::InputLong => 11,
             Status::NoMemory => 12,
             Status::Rejected => 13,
+            Status::AnswersNo => 14,
+            Status::AnswersUndecided => 15,
         }
     }
 }
@@ -101,6 +108,7 @@ fn fault_status(fault: &Fault) -> Status
         Fault::Choose { refusal, .. } => refusal_status(refusal),
         Fault::Weight { .. } => Status::Limit,
         Fault::Depth { .. } => Status::Limit,
+        Fault::NoSetsInC => Status::Types,
         Fault::BadTarget => Status::Types,
         Fault::Steps(_) => Status::Text,
         Fault::Rejected { .. } => Status::Rejected,
@@ -108,6 +116,8 @@ fn fault_status(fault: &Fault) -> Status
         Fault::Output => Status::Output,
         Fault::InputTooLong => Status::InputLong,
         Fault::OutputTooLong => Status::Limit,
+        Fault::AnswersNo(_) => Status::AnswersNo,
+        Fault::AnswersUndecided(_) => Status::AnswersUndecided,
         Fault::NoMemory => Status::NoMemory,
     }
 }

@@ -4,7 +4,7 @@ ghost use Rattle.std.specs.Io.KnownBytes.{Appends};
 ghost use Rattle.cf_io.specs.Bytes.{TookPrefix};
 ghost use Rattle.cf_io.specs.Causes.{one_more};
 ghost use Rattle.cf_answer.specs.Lines.{line_text, Puts};
-ghost use Rattle.cf_answer.specs.Texts.{place_line, place_line_behind, count_line, choose_line, rule_line};
+ghost use Rattle.cf_answer.specs.Texts.{answered_line, answers_line, answers_verb as the_answers_verb, place_line, place_line_behind, count_line, choose_line, rule_line};
 ghost use Rattle.cf_answer.specs.Texts.{steps_line, rejected_line, fault_line, answer_line};
 ghost use Rattle.cf_answer.specs.Written.{line_of};
 
@@ -41,6 +41,11 @@ enum Line<'a> {
         case: u32,
         step: u32,
         why: Why,
+    },
+    // So many answers of `check` are so.
+    Answers {
+        count: u32,
+        so: &'a [u8],
     },
 }
 
@@ -119,7 +124,7 @@ fn fault_line(fault: &Fault) -> Line<'static>
 {
     match fault {
         Fault::Usage => Line::Words(
-            b"usage: comfusy compile|pre|check|run|exec|prove FILE, or comfusy verify FILE STEPS, or comfusy gen N, or comfusy --help".as_slice(),
+            b"usage: comfusy compile|pre|check|run|exec|prove FILE, or comfusy emit LANG FILE, or comfusy verify FILE STEPS, or comfusy gen N, or comfusy --help".as_slice(),
         ),
         Fault::File => Line::Words(b"cannot read file".as_slice()),
         Fault::TextTooLong => Line::Words(b"text too long".as_slice()),
@@ -133,6 +138,7 @@ fn fault_line(fault: &Fault) -> Line<'static>
         },
         Fault::Weight { weight, .. } => weight_line(*weight),
         Fault::Depth { depth, .. } => depth_line(*depth),
+        Fault::NoSetsInC => Line::Words(b"no sets in c".as_slice()),
         Fault::BadTarget => Line::Words(b"target not well typed".as_slice()),
         Fault::Steps(fault) => steps_line(fault),
         Fault::Rejected {
@@ -150,6 +156,14 @@ fn fault_line(fault: &Fault) -> Line<'static>
         Fault::Output => Line::Words(b"cannot write output".as_slice()),
         Fault::InputTooLong => Line::Words(b"input too long".as_slice()),
         Fault::OutputTooLong => Line::Words(b"text too long".as_slice()),
+        Fault::AnswersNo(count) => Line::Answers {
+            count: *count,
+            so: b"no".as_slice(),
+        },
+        Fault::AnswersUndecided(count) => Line::Answers {
+            count: *count,
+            so: b"undecided".as_slice(),
+        },
         Fault::NoMemory => Line::Words(b"no memory".as_slice()),
     }
 }
@@ -253,6 +267,41 @@ fn put_rejected<E: Sink>(
     put_pieces(err, &pieces)
 }
 
+fn answers_verb<'x>(count: u32) -> &'x [u8]
+    ensures { result.now ≡ the_answers_verb count }
+{
+    if count == 1 {
+        b" answer is ".as_slice()
+    } else {
+        b" answers are ".as_slice()
+    }
+}
+
+fn put_answers<E: Sink>(err: &mut E, count: u32, so: &[u8]) -> Result<(), Failed>
+    ensures { Puts (answers_line count so.now) (E.seen err.old) (E.seen err.new) result }
+{
+    let mut number = Buffer::new();
+    put_answered(
+        err,
+        number.format(count).as_bytes(),
+        answers_verb(count),
+        so,
+    )
+}
+
+// What is lent stands in one array, so it is lent for one time.
+fn put_answered<'x, E: Sink>(
+    err: &mut E,
+    count: &'x [u8],
+    verb: &'x [u8],
+    so: &'x [u8],
+) -> Result<(), Failed>
+    ensures { Puts (answered_line count.now verb.now so.now) (E.seen err.old) (E.seen err.new) result }
+{
+    let pieces = [b"check: ".as_slice(), count, verb, so, b"\n".as_slice()];
+    put_pieces(err, &pieces)
+}
+
 fn put_line<E: Sink>(err: &mut E, line: &Line<'_>) -> Result<(), Failed>
     ensures { Puts (line_text line.now) (E.seen err.old) (E.seen err.new) result }
 {
@@ -267,6 +316,7 @@ fn put_line<E: Sink>(err: &mut E, line: &Line<'_>) -> Result<(), Failed>
             step,
             why,
         } => put_rejected(err, *number, *case, *step, why),
+        Line::Answers { count, so } => put_answers(err, *count, *so),
     }
 }
 

@@ -1,10 +1,12 @@
 //! What `check` asks of a choose that is told of, branch by branch.
-ghost use Rattle.std.specs.Prelude.{◌≡◌, ◌||◌, int_lt, pos, All, IfOk, Option, Some, None, length, map};
+ghost use Rattle.std.specs.Prelude.{◌≡◌, ◌≢◌, ◌<◌, ◌||◌, ℕ, true, false, int_lt, pos, All, IfOk, Option, Some, None, length, map};
+ghost use Rattle.cf_tree.specs.Occurs.{rel_holds as rel_holds_of};
 ghost use Rattle.cf_tree.specs.RelTree.{rel_not, rel_or};
 ghost use Rattle.cf_tree.specs.RelView.{rel_tree};
 ghost use Rattle.cf_tree.specs.Values.{number_of};
 ghost use Rattle.cf_eval.specs.Seen.{plain, plains};
-ghost use Rattle.cf_form.specs.Branches.{is_among as is_among_of, values_in};
+ghost use Rattle.cf_form.specs.Branches.{is_among as is_among_of, is_truth as is_truth_base_of, values_in};
+ghost use Rattle.cf_form.specs.Told.{HoldsCondition};
 ghost use Rattle.cf_form.specs.ToldView.{given_tree, told_branch, told_choose, truth_at};
 ghost use Rattle.cf_choose.specs.Solved.{IsOutput, SolveAnswer};
 ghost use Rattle.cf_warn.specs.Questions.{base_at as the_base_at};
@@ -16,17 +18,18 @@ ghost use Rattle.cf_answer.specs.ToldChecks.{first_existence as first_existence_
 ghost use Rattle.cf_answer.specs.ToldChecks.{is_told as is_told_of, named_levels as named_levels_of};
 ghost use Rattle.cf_answer.specs.ToldChecks.{shown_value as shown_value_of, shown_values as shown_values_of, some_condition_holds as some_condition_holds_of};
 ghost use Rattle.cf_answer.specs.ToldChecks.{told_of as the_told_of, truth_or};
+ghost use Rattle.cf_answer.specs.Tells.{are_truths as are_truths_of, is_named as is_named_of, is_truth as is_truth_of};
+ghost use Rattle.cf_answer.specs.Tells.{Fits, IsCondition, IsOfTwo, TellsExistence, TellsExistenceIn, TellsUniqueness, TellsUniquenessIn, same_values};
 ghost use Rattle.cf_answer.specs.Checking.{IsExistenceOf, IsRefusedExistence, IsRefusedUniqueness, IsUniquenessOf, asked_view, named_by, telling_view};
 
 use cf_choose::{ChooseFault, Solved, solve};
-use cf_eval::Value;
+use cf_decide::{Effort, decide_existence, decide_uniqueness};
+use cf_eval::{Value, compare};
 use cf_form::{Branch, ChooseInfo, TruthAt};
 use cf_set::Set;
 use cf_setwit::push_if;
-use cf_tree::{Base, NoMemory, Rel, rel_holds, to_u32, without};
-use cf_warn::{
-    Doubt, ExistenceAnswer, UniquenessAnswer, existence, is_over, parameters, uniqueness,
-};
+use cf_tree::{Base, NoMemory, Order, Rel, rel_holds, to_u32, without};
+use cf_warn::{Doubt, ExistenceAnswer, UniquenessAnswer, is_over, parameters};
 use std::alloc::Global;
 
 // What is asked of each branch: the bases of the scope, of all outputs, and of those that are given
@@ -310,6 +313,7 @@ fn branch_existence(
     alloc: Global,
     asked: &Asked<'_>,
     branch: &Branch,
+    effort: Effort,
 ) -> Result<ExistenceAnswer, NoMemory>
     requires { All IsOutput asked.now.outputs.now }
     ensures { IfOk result (IsBranchExistence (asked_view asked.now) (told_branch branch.now)) }
@@ -318,7 +322,7 @@ fn branch_existence(
     let solved = solved_over(alloc, asked, &rel);
     drop(rel);
     match solved {
-        Ok(solved) => named_existence(alloc, asked, &branch.truths, &solved),
+        Ok(solved) => named_existence(alloc, asked, &branch.truths, &solved, effort),
         Err(fault) => refused_existence(fault),
     }
 }
@@ -337,13 +341,14 @@ fn named_existence(
     asked: &Asked<'_>,
     truths: &[TruthAt],
     solved: &Solved,
+    effort: Effort,
 ) -> Result<ExistenceAnswer, NoMemory>
     requires { solved.now.scope.items ≡ asked.now.scope.now }
     ensures { IfOk result (λ told. (own : ExistenceAnswer) × IsExistenceOf solved.now own
         × NamesExistence (named_by asked.now truths.now solved.now) own told) }
 {
     let params = parameters(alloc, solved)?;
-    match existence(alloc, solved)? {
+    match decide_existence(alloc, solved, effort)? {
         ExistenceAnswer::Always => Ok(ExistenceAnswer::Always),
         ExistenceAnswer::Missing(sample) => {
             let named = named_sample(alloc, asked, truths, &params, &sample)?;
@@ -358,12 +363,13 @@ fn branch_uniqueness(
     alloc: Global,
     asked: &Asked<'_>,
     branch: &Branch,
+    effort: Effort,
 ) -> Result<UniquenessAnswer, NoMemory>
     requires { All IsOutput asked.now.outputs.now }
     ensures { IfOk result (IsBranchUniqueness (asked_view asked.now) (told_branch branch.now)) }
 {
     match solved_over(alloc, asked, &branch.relation) {
-        Ok(solved) => named_uniqueness(alloc, asked, &branch.truths, &solved),
+        Ok(solved) => named_uniqueness(alloc, asked, &branch.truths, &solved, effort),
         Err(fault) => refused_uniqueness(fault),
     }
 }
@@ -382,13 +388,14 @@ fn named_uniqueness(
     asked: &Asked<'_>,
     truths: &[TruthAt],
     solved: &Solved,
+    effort: Effort,
 ) -> Result<UniquenessAnswer, NoMemory>
     requires { solved.now.scope.items ≡ asked.now.scope.now }
     ensures { IfOk result (λ told. (own : UniquenessAnswer) × IsUniquenessOf solved.now (length asked.now.shown.now) own
         × NamesUniqueness (named_by asked.now truths.now solved.now) asked.now.shown.now own told) }
 {
     let params = parameters(alloc, solved)?;
-    match uniqueness(alloc, solved, asked.shown.len())? {
+    match decide_uniqueness(alloc, solved, asked.shown.len(), effort)? {
         UniquenessAnswer::Unique => Ok(UniquenessAnswer::Unique),
         UniquenessAnswer::Two {
             sample,
@@ -408,27 +415,223 @@ fn named_uniqueness(
     }
 }
 
+// ---- what the answers of a branch say
+// Whether what is asked of a branch is of this scope: samples name its truth variables, and all variables
+// of which its condition and its relation speak. Each branch that is told fits.
+fn fits(asked: &Asked<'_>, branch: &Branch) -> bool
+    ensures { result ≡ true → Fits (asked_view asked.now) (told_branch branch.now) }
+{
+    are_truths(asked, &branch.truths)
+        && is_condition(asked.scope, &branch.given)
+        && are_named(asked, branch)
+}
+
+// Whether these are truth variables of the scope that samples name.
+fn are_truths(asked: &Asked<'_>, truths: &[TruthAt]) -> bool
+    ensures { result ≡ are_truths_of (asked_view asked.now) (map truth_at truths.now) }
+{
+    let mut rest = truths;
+    while let Some((truth, more)) = rest.split_first() {
+        if !is_truth(asked, truth.level) {
+            return false;
+        }
+        rest = more;
+    }
+    true
+}
+
+fn is_truth(asked: &Asked<'_>, level: u32) -> bool
+    ensures { result ≡ is_truth_of (asked_view asked.now) level }
+{
+    is_truth_base(base_at(asked.scope, level)) && is_among(level, asked.levels)
+}
+
+fn is_truth_base(base: Base) -> bool
+    ensures { result ≡ is_truth_base_of base }
+{
+    match base {
+        Base::Bool => true,
+        Base::Int | Base::Set => false,
+    }
+}
+
+// Whether a condition speaks of variables in scope alone.
+fn is_condition(scope: &[Base], given: &Option<Rel>) -> bool
+    ensures { result ≡ true → IsCondition scope.now (given_tree given.now) }
+{
+    match given {
+        None => true,
+        Some(condition) => is_over(scope, condition),
+    }
+}
+
+// Whether samples name all variables in scope of which the question of a branch speaks, and none of these
+// is a truth variable.
+fn are_named(asked: &Asked<'_>, branch: &Branch) -> bool
+    ensures { result ≡ true → (x : ℕ) → x < length asked.now.scope.now → rel_holds_of x (question_of (told_branch branch.now)) ≡ true →
+        is_named_of (asked_view asked.now) x ≡ true }
+{
+    match to_u32(asked.scope.len()) {
+        Ok(end) => are_named_below(asked, branch, end),
+        Err(_) => false,
+    }
+}
+
+fn are_named_below(asked: &Asked<'_>, branch: &Branch, end: u32) -> bool
+    ensures { result ≡ true → (x : ℕ) → x < end → rel_holds_of x (question_of (told_branch branch.now)) ≡ true →
+        is_named_of (asked_view asked.now) x ≡ true }
+{
+    for level in 0..end {
+        if !is_named_if_asked(asked, branch, level) {
+            return false;
+        }
+    }
+    true
+}
+
+fn is_named_if_asked(asked: &Asked<'_>, branch: &Branch, level: u32) -> bool
+    ensures { result ≡ true → rel_holds_of level (question_of (told_branch branch.now)) ≡ true → is_named_of (asked_view asked.now) level ≡ true }
+{
+    if asks_of(branch, level) {
+        is_named_value(asked, level)
+    } else {
+        true
+    }
+}
+
+// Whether samples name the variable of this level, which is no truth variable.
+fn is_named_value(asked: &Asked<'_>, level: u32) -> bool
+    ensures { result ≡ is_named_of (asked_view asked.now) level }
+{
+    !is_truth_base(base_at(asked.scope, level)) && is_among(level, asked.levels)
+}
+
+fn asks_of(branch: &Branch, level: u32) -> bool
+    ensures { result ≡ rel_holds_of level (question_of (told_branch branch.now)) }
+{
+    match &branch.given {
+        None => rel_holds(&branch.relation, level),
+        Some(condition) => rel_holds(condition, level) || rel_holds(&branch.relation, level),
+    }
+}
+
+// What the answer of a branch says. For one that does not fit there is no memory.
+fn existence_in(
+    alloc: Global,
+    asked: &Asked<'_>,
+    branch: &Branch,
+    effort: Effort,
+) -> Result<ExistenceAnswer, NoMemory>
+    requires { All IsOutput asked.now.outputs.now }
+    ensures { IfOk result (TellsExistenceIn (asked_view asked.now) (told_branch branch.now)) }
+{
+    if !fits(asked, branch) {
+        return Err(NoMemory);
+    }
+    branch_existence(alloc, asked, branch, effort)
+}
+
+// The same of uniqueness, where the condition is part of the relation. Where both are given out alike
+// there is no memory; outputs that are told differ.
+fn uniqueness_in(
+    alloc: Global,
+    asked: &Asked<'_>,
+    branch: &Branch,
+    effort: Effort,
+) -> Result<UniquenessAnswer, NoMemory>
+    requires { All IsOutput asked.now.outputs.now }
+    ensures { IfOk result (λ u. HoldsCondition (told_branch branch.now) → TellsUniquenessIn (asked_view asked.now) (told_branch branch.now) u) }
+{
+    if !fits(asked, branch) {
+        return Err(NoMemory);
+    }
+    let answer = branch_uniqueness(alloc, asked, branch, effort)?;
+    if is_of_two(&answer) {
+        Ok(answer)
+    } else {
+        Err(without(answer, NoMemory))
+    }
+}
+
+// Whether the two of an answer differ, if it tells two.
+fn is_of_two(answer: &UniquenessAnswer) -> bool
+    ensures { result ≡ true → IsOfTwo answer.now }
+{
+    match answer {
+        UniquenessAnswer::Two { first, second, .. } => differ(first, second),
+        UniquenessAnswer::Unique => true,
+        UniquenessAnswer::Undecided(_) => true,
+    }
+}
+
+fn differ(first: &[Value], second: &[Value]) -> bool
+    ensures { result ≡ true → plains first.now ≢ plains second.now }
+{
+    !are_same(first, second)
+}
+
+// Whether values are the same, one by one.
+fn are_same(first: &[Value], second: &[Value]) -> bool
+    ensures { result ≡ same_values (plains first.now) (plains second.now) }
+{
+    let mut left = first;
+    let mut right = second;
+    while let Some((value, more)) = left.split_first() {
+        match right.split_first() {
+            None => return false,
+            Some((other, rest)) => {
+                if !compare(Order::Eq, value, other) {
+                    return false;
+                }
+                left = more;
+                right = rest;
+            }
+        }
+    }
+    right.is_empty()
+}
+
 // ---- all branches
-/// Whether each input for which the condition holds has a solution: over the branches in order the
-/// first sample, else the first doubt.
+/// Whether each input for which the condition holds has outputs. In the order of the branches the first
+/// sample is told, else the first doubt.
 pub(crate) fn told_existence(
     alloc: Global,
     asked: &Asked<'_>,
     branches: &[Branch],
 ) -> Result<ExistenceAnswer, NoMemory>
     requires { All IsOutput asked.now.outputs.now }
-    ensures { IfOk result (ComeTo (IsBranchExistence (asked_view asked.now)) first_existence_of Always (map told_branch branches.now)) }
+    ensures { IfOk result (TellsExistence (asked_view asked.now) (map told_branch branches.now)) }
+{
+    existence_in_all(alloc, asked, branches)
+}
+
+fn existence_in_all(
+    alloc: Global,
+    asked: &Asked<'_>,
+    branches: &[Branch],
+) -> Result<ExistenceAnswer, NoMemory>
+    requires { All IsOutput asked.now.outputs.now }
+    ensures { IfOk result (ComeTo (TellsExistenceIn (asked_view asked.now)) first_existence_of Always (map told_branch branches.now)) }
 {
     let mut answer = ExistenceAnswer::Always;
     let mut rest = branches;
     while let Some((branch, more)) = rest.split_first() {
-        match branch_existence(alloc, asked, branch) {
+        let effort = effort_for_existence(&answer);
+        match existence_in(alloc, asked, branch, effort) {
             Ok(told) => answer = first_existence(answer, told),
             Err(fault) => return Err(without(answer, fault)),
         }
         rest = more;
     }
     Ok(answer)
+}
+
+// Behind a sample or a doubt, a refutation in a later branch changes nothing.
+fn effort_for_existence(before: &ExistenceAnswer) -> Effort {
+    match before {
+        ExistenceAnswer::Always => Effort::Refutation,
+        ExistenceAnswer::Missing(_) | ExistenceAnswer::Undecided(_) => Effort::Elimination,
+    }
 }
 
 // Of two answers the first sample, else the first doubt.
@@ -453,26 +656,46 @@ fn missing_or(after: ExistenceAnswer, doubt: Doubt) -> ExistenceAnswer
     }
 }
 
-/// Whether solutions never differ in what is given out: over the branches in order the first two that
-/// do, else the first doubt.
+/// Whether no two lists of outputs differ in what is given out, where the conditions are part of the
+/// relations. In the order of the branches the first two that do are told, else the first doubt.
 pub(crate) fn told_uniqueness(
     alloc: Global,
     asked: &Asked<'_>,
     branches: &[Branch],
 ) -> Result<UniquenessAnswer, NoMemory>
     requires { All IsOutput asked.now.outputs.now }
-    ensures { IfOk result (ComeTo (IsBranchUniqueness (asked_view asked.now)) first_uniqueness_of Unique (map told_branch branches.now)) }
+    ensures { IfOk result (λ u. All HoldsCondition (map told_branch branches.now) → TellsUniqueness (asked_view asked.now) (map told_branch branches.now) u) }
+{
+    uniqueness_in_all(alloc, asked, branches)
+}
+
+fn uniqueness_in_all(
+    alloc: Global,
+    asked: &Asked<'_>,
+    branches: &[Branch],
+) -> Result<UniquenessAnswer, NoMemory>
+    requires { All IsOutput asked.now.outputs.now }
+    ensures { IfOk result (ComeTo (λ b u. HoldsCondition b → TellsUniquenessIn (asked_view asked.now) b u) first_uniqueness_of Unique (map told_branch branches.now)) }
 {
     let mut answer = UniquenessAnswer::Unique;
     let mut rest = branches;
     while let Some((branch, more)) = rest.split_first() {
-        match branch_uniqueness(alloc, asked, branch) {
+        let effort = effort_for_uniqueness(&answer);
+        match uniqueness_in(alloc, asked, branch, effort) {
             Ok(told) => answer = first_uniqueness(answer, told),
             Err(fault) => return Err(without(answer, fault)),
         }
         rest = more;
     }
     Ok(answer)
+}
+
+// Behind two solutions or a doubt, a refutation in a later branch changes nothing.
+fn effort_for_uniqueness(before: &UniquenessAnswer) -> Effort {
+    match before {
+        UniquenessAnswer::Unique => Effort::Refutation,
+        UniquenessAnswer::Two { .. } | UniquenessAnswer::Undecided(_) => Effort::Elimination,
+    }
 }
 
 // Of two answers the first with two solutions, else the first doubt.

@@ -17,8 +17,11 @@ use crate::system_builder::{SystemBuilder, add_divided, add_false, add_written};
 use cf_linear::{Layout, RowFault, row_of};
 use cf_tree::{Order, Term};
 
-// Adds the rows of the case with this index of a comparison.
-pub(crate) fn add_compare(
+/// Adds the rows of the case with this index of a comparison.
+///
+/// # Errors
+/// `Past` where an entry passes the limit, `NoMemory` where memory ran out.
+pub fn add_compare(
     order: Order,
     left: &Term,
     right: &Term,
@@ -45,9 +48,12 @@ pub(crate) fn add_compare(
     add_written(way_of(order, index), &first, &second, builder)
 }
 
-// Adds the rows of the case with this index of the atom that `k` divides the form, where `holds`, or
-// that it does not.
-pub(crate) fn add_divides(
+/// Adds the rows of the case with this index of the atom that `k` divides the form, where `holds`, or
+/// that it does not.
+///
+/// # Errors
+/// `Past` where an entry passes the limit, `NoMemory` where memory ran out.
+pub fn add_divides(
     holds: bool,
     k: &i128,
     of: &Term,
@@ -71,8 +77,11 @@ pub(crate) fn add_divides(
     add_divided(holds, k, &written, builder)
 }
 
-// Adds the rows of true, where `holds`, or of false.
-pub(crate) fn add_constant(holds: bool, builder: &mut SystemBuilder) -> Result<(), RowFault>
+/// Adds the rows of true, where `holds`, or of false.
+///
+/// # Errors
+/// `NoMemory` where memory ran out.
+pub fn add_constant(holds: bool, builder: &mut SystemBuilder) -> Result<(), RowFault>
     ensures gives { BuilderAnswer (with_rows (rows_of builder.old) [] (false_rows holds)) builder.new result }
     ensures next { IfOk result (λ _. builder.new.next ≡ builder.old.next) }
 {

@@ -218,8 +218,8 @@ fn choices(term: &Term) -> u128
     }
 }
 
-// The order, where `holds`, or the opposite one.
-pub(crate) fn order_as(order: Order, holds: bool) -> Order
+/// The order, where `holds`, or the opposite one.
+pub fn order_as(order: Order, holds: bool) -> Order
     ensures { result ≡ order_as holds order }
 {
     if holds {
@@ -235,8 +235,8 @@ pub(crate) fn order_as(order: Order, holds: bool) -> Order
     }
 }
 
-// How many orders stand for an order.
-pub(crate) fn order_ways(order: Order) -> u128
+/// How many orders stand for an order.
+pub fn order_ways(order: Order) -> u128
     ensures ways { result ≡ order_ways order }
     ensures some { 1 ≤ result }
 {

@@ -14,16 +14,20 @@ use cf_linear::{Layout, Row, RowFault, region_row};
 use cf_tree::{NoMemory, SetTerm};
 use std::alloc::Global;
 
-// The regions that tell two set forms apart: those in exactly one of them, or those in the first and
-// not in the second.
+/// The regions that tell two set forms apart.
 #[derive(Clone, Copy)]
-pub(crate) enum Regions {
+pub enum Regions {
+    /// Those in exactly one of them.
     InOne,
+    /// Those in the first and not in the second.
     InFirst,
 }
 
-// Adds the rows that say of these regions that each is empty, where `empty`, or that some is not.
-pub(crate) fn add_apart(
+/// Adds the rows that say of these regions that each is empty, where `empty`, or that some is not.
+///
+/// # Errors
+/// `Past` where an entry passes the limit, `NoMemory` where memory ran out.
+pub fn add_apart(
     regions: Regions,
     empty: bool,
     a: &SetTerm,
@@ -94,12 +98,11 @@ fn difference(alloc: Global, a: &SetTerm, b: &SetTerm) -> Result<SetTerm, NoMemo
     Ok(SetTerm::Diff(Box::new(alloc, left)?, Box::new(alloc, right)?))
 }
 
-// Adds of each choice of input sets the row of what lies in exactly these.
-pub(crate) fn add_inputs(
-    alloc: Global,
-    layout: &Layout,
-    rows: &mut Vec<Row>,
-) -> Result<(), NoMemory>
+/// Adds of each choice of input sets the row of what lies in exactly these.
+///
+/// # Errors
+/// `NoMemory` where memory ran out.
+pub fn add_inputs(alloc: Global, layout: &Layout, rows: &mut Vec<Row>) -> Result<(), NoMemory>
     requires sets { set_count (plain_layout layout.now) ≤ MOST_SETS }
     requires room { first_free (plain_layout layout.now) < 2 ^ 32 }
     ensures { OnOk result (rows.new.items ≡ rows.old.items ++ map (input_row (plain_layout layout.now)) (masks (length layout.now.inputs.items))) }
@@ -149,12 +152,11 @@ fn append_if(row: &mut Row, column: u32, wanted: bool) -> Result<(), NoMemory>
     Ok(())
 }
 
-// Adds the row of the count of each region.
-pub(crate) fn add_counts(
-    alloc: Global,
-    layout: &Layout,
-    rows: &mut Vec<Row>,
-) -> Result<(), NoMemory>
+/// Adds the row of the count of each region.
+///
+/// # Errors
+/// `NoMemory` where memory ran out.
+pub fn add_counts(alloc: Global, layout: &Layout, rows: &mut Vec<Row>) -> Result<(), NoMemory>
     requires sets { set_count (plain_layout layout.now) ≤ MOST_SETS }
     requires room { first_free (plain_layout layout.now) < 2 ^ 32 }
     ensures { OnOk result (rows.new.items ≡ rows.old.items ++ map (λ m. put (region_column (plain_layout layout.now) m) (pos 1) [])

@@ -39,8 +39,11 @@ pub(crate) fn signs_of(alloc: Global, term: &Term, index: u128) -> Result<Vec<bo
     signs_at(alloc, abs_count(term)?, index)
 }
 
-// How many forms `abs` the form holds.
-pub(crate) fn abs_count(term: &Term) -> Result<usize, NoMemory>
+/// How many forms `abs` the form holds.
+///
+/// # Errors
+/// `NoMemory` where the number passes what memory holds.
+pub fn abs_count(term: &Term) -> Result<usize, NoMemory>
     ensures { IfOk result (λ n. n ≡ abs_count (term_tree term.now)) }
 {
     match term {

@@ -12,14 +12,14 @@ use cf_linear::{Guard, Row, RowFault, Written, above_quotient, below_quotient, p
 use cf_tree::{NoMemory, Order};
 use std::alloc::Global;
 
-// The rows of the atoms that are written so far, and the next free column; further rows take memory
-// from `alloc`.
+/// The rows of the atoms that are written so far, and the next free column; further rows take memory
+/// from `alloc`.
 #[derive(Drop)]
-pub(crate) struct SystemBuilder {
-    pub(crate) alloc: Global,
-    pub(crate) equations: Vec<Row>,
-    pub(crate) inequalities: Vec<Row>,
-    pub(crate) next: u32,
+pub struct SystemBuilder {
+    pub alloc: Global,
+    pub equations: Vec<Row>,
+    pub inequalities: Vec<Row>,
+    pub next: u32,
 }
 
 // Adds the rows of a comparison of two written forms.

@@ -10,6 +10,7 @@ pub mod ChooseLaw
 pub mod ChooseSolutions
 mod ChooseSteps
 mod ChooseWalk
+pub mod ConditionLaws
 mod CountExamples
 mod CountLaws
 mod ExpansionExamples

@@ -9,6 +9,7 @@ use Rattle.cf_program.specs.declared.linearity.Linearity.{Linearity}
 use Rattle.cf_form.specs.Expansion.{call_expanded}
 use Rattle.cf_form.specs.Formed.{formed, formed_defs}
 use Rattle.cf_form.specs.Kept.{IsSource, IsFormedBy}
+use Rattle.cf_form.specs.Told.{HoldConditions, all_told}
 use Rattle.cf_form.specs.Widened.{widened, IsOfLanguageTwo}
 
 abbrev pub bodies : List DefTree → List ExprTree
@@ -30,3 +31,7 @@ FormingKeepsTypes = (how : Linearity) (defs : List DefTree) (main : ℕ) → IsS
 -- a body without new forms is formed to itself, behind any functions and variables
 abbrev pub FormsToItself : Type 0
 FormsToItself = (before : List ExprTree) (s : ℕ) (e : ExprTree) → IsOfLanguageTwo e → formed (call_expanded before) s (widened e) ≡ e
+
+-- in each branch of each choose that is told of, the condition holds where the relation does
+abbrev pub ConditionsAreHeld : Type 0
+ConditionsAreHeld = (defs : List DefTree) → HoldConditions (all_told defs)

@@ -1,8 +1,10 @@
 -- What is told of the chooses of a source: of each its branches with their relations and conditions, how its outputs are given out, and its parameters.
-use Rattle.std.specs.Prelude.{ℕ, Option, Some, None, List, [], ◌∷◌, length, map}
+use Rattle.std.specs.Prelude.{ℕ, ⊤, Option, Some, None, List, [], ◌∷◌, length, map, All}
 use Rattle.cf_tree.specs.declared.base.Base.{Base}
 use Rattle.cf_tree.specs.DefView.{DefTree}
+use Rattle.cf_tree.specs.Relation.{Holds}
 use Rattle.cf_tree.specs.RelTree.{RelTree}
+use Rattle.cf_tree.specs.Values.{Value}
 use Rattle.cf_form.specs.Branches.{WideChoose, Branch, branches, relation_at, given_at, parameters}
 use Rattle.cf_form.specs.Expansion.{call_expanded}
 use Rattle.cf_form.specs.Formed.{wide_choose}
@@ -49,3 +51,16 @@ told q =
 -- the chooses of a program as they are told
 abbrev pub all_told : List DefTree → List ToldChoose
 all_told ds = map told (wide_chooses ds)
+
+-- ---- conditions
+-- the condition holds, if there is one
+abbrev pub Allows : Option RelTree → List Value → Type 0
+Allows None env = ⊤
+Allows (Some p) env = Holds p env
+
+-- the condition of a branch is part of its relation, so that it holds where that does
+abbrev pub HoldsCondition : ToldBranch → Type 0
+HoldsCondition b = (env : List Value) → Holds b.relation env → Allows b.given env
+
+abbrev pub HoldConditions : List ToldChoose → Type 0
+HoldConditions told = All (λ c. All HoldsCondition c.branches) told

@@ -30,7 +30,7 @@ mod told;
 mod truths;
 mod wide;
 
-ghost use Rattle.cf_form.specs.Laws.{FormingAllowsTheSame, FormingKeepsTypes, FormsToItself};
+ghost use Rattle.cf_form.specs.Laws.{ConditionsAreHeld, FormingAllowsTheSame, FormingKeepsTypes, FormsToItself};
 
 pub use crate::fault::FormFault;
 pub use crate::formed::{Formed, FormedParts, form};
@@ -44,4 +44,9 @@ pub fn forming_keeps_facts()
     ensures outcomes { FormingAllowsTheSame }
     ensures types { FormingKeepsTypes }
     ensures itself { FormsToItself }
+{}
+
+/// In each branch of each choose that is told of, the condition holds where the relation does.
+pub fn conditions_are_held()
+    ensures { ConditionsAreHeld }
 {}

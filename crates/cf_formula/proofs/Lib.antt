@@ -39,5 +39,7 @@ pub mod TightLaws
 pub mod TightLemmas
 pub mod TightRows
 pub mod TurnLaws
+pub mod WritingCode
 pub mod WritingExamples
 pub mod WritingLaws
+pub mod WritingLimits

@@ -16,3 +16,4 @@ pub mod Sums
 pub mod Tight
 pub mod Turns
 pub mod Writing
+pub mod WritingAnswers

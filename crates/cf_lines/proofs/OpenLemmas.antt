@@ -10,7 +10,7 @@ use Rattle.cf_tree.specs.declared.target.RawTarget.{RawTarget}
 use Rattle.cf_pass.specs.Passes.{Told}
 use Rattle.cf_words.specs.Commands.{Command, command_on, run, exec, file_command}
 use Rattle.cf_words.specs.declared.command.CommandKind.{CommandKind}
-use Rattle.cf_words.specs.declared.command.CommandKind.TheVariants.{Compile, Run, Pre, Check, Exec, Prove}
+use Rattle.cf_words.specs.declared.command.CommandKind.TheVariants.{Compile, Run, Pre, Check, Exec, Prove, Emit}
 use Rattle.cf_words.specs.declared.command.FileCommand.{FileCommand}
 use Rattle.cf_words.specs.declared.command.Flags.{Flags}
 use Rattle.cf_words.specs.declared.command.ReplyForm.{ReplyForm}
@@ -72,18 +72,20 @@ long_refused : (kind : CommandKind) (flags : Flags) (form : ReplyForm) (name tex
 long_refused Compile flags form name text h = too_long h
 long_refused Run flags form name text h = too_long h
 long_refused Pre flags form name text h = too_long h
-long_refused Check flags form name text h = too_long h
+long_refused (Check strictness) flags form name text h = too_long h
 long_refused Exec flags form name text h = too_long (past_its_own (edition_for (text ∷ [])) (length text) h)
 long_refused Prove flags form name text h = too_long h
+long_refused (Emit e) flags form name text h = too_long h
 
 -- a command on a file reads that one
 one_name : (kind : CommandKind) (flags : Flags) (form : ReplyForm) (name : List ℕ) → names_of (command_on kind flags form name) ≡ name ∷ []
 one_name Compile flags form name = refl
 one_name Run flags form name = refl
 one_name Pre flags form name = refl
-one_name Check flags form name = refl
+one_name (Check strictness) flags form name = refl
 one_name Exec flags form name = refl
 one_name Prove flags form name = refl
+one_name (Emit e) flags form name = refl
 
 one_text : (c : FileCommand) (texts : List ℕ → Option (List ℕ)) (text : List ℕ) → AreTold (texts c.file.now) text →
     AreTexts texts (names_of (file_command c)) (text ∷ [])

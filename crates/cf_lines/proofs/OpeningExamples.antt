@@ -1,9 +1,10 @@
 -- Which commands answer lines, and what an opened program owes, worked out.
 use Rattle.std.proofs.Common.{◌≡◌, refl, ℕ, true, false, List, [], ◌∷◌, codes}
 use Rattle.std.specs.Prelude.{Some, None}
-use Rattle.cf_words.specs.Commands.{compile, run, pre, check, exec, prove, verify, gen, help, version}
+use Rattle.cf_words.specs.Commands.{Emitting, compile, run, pre, check, exec, prove, emit, verify, gen, help, version}
 use Rattle.cf_words.specs.declared.command.Flags.{Flags}
 use Rattle.cf_words.specs.declared.command.ReplyForm.{ReplyForm}
+use Rattle.cf_words.specs.declared.command.Strictness.TheVariants as strictness
 use Rattle.cf_answer.specs.Owed.{Replier, AreReplies, Owes}
 use Rattle.cf_answer.specs.declared.fault.Fault.TheVariants as fault
 use Rattle.cf_lines.specs.Opening.{answers_lines, RepliesFor, IsUnasked}
@@ -38,7 +39,7 @@ tallies_do_not = refl
 compile_does_not : answers_lines (compile none (codes "f")) ≡ false
 compile_does_not = refl
 
-check_does_not : answers_lines (check (codes "f")) ≡ false
+check_does_not : answers_lines (check strictness.Told (codes "f")) ≡ false
 check_does_not = refl
 
 pre_does_not : answers_lines (pre (codes "f")) ≡ false
@@ -46,6 +47,9 @@ pre_does_not = refl
 
 prove_does_not : answers_lines (prove (codes "f")) ≡ false
 prove_does_not = refl
+
+emit_does_not : (e : Emitting) → answers_lines (emit e (codes "f")) ≡ false
+emit_does_not e = refl
 
 verify_does_not : answers_lines (verify (codes "f") (codes "s")) ≡ false
 verify_does_not = refl

@@ -66,13 +66,17 @@ fn answering(command: FileCommand<'_>) -> Result<FileCommand<'_>, Fault>
 }
 
 // Whether a command answers lines, and writes nothing behind all replies.
-fn answers_lines(kind: CommandKind, flags: Flags) -> bool
-    ensures { (form : ReplyForm) (file : List ℕ) → result ≡ the_answers_lines (command_on kind flags form file) }
+fn answers_lines(kind: CommandKind<'_>, flags: Flags) -> bool
+    ensures { (form : ReplyForm) (file : List ℕ) → result ≡ the_answers_lines (command_on kind.entry flags form file) }
 {
     match kind {
         CommandKind::Run => !flags.stats,
         CommandKind::Exec => true,
-        CommandKind::Compile | CommandKind::Pre | CommandKind::Check | CommandKind::Prove => false,
+        CommandKind::Compile
+        | CommandKind::Pre
+        | CommandKind::Check(_)
+        | CommandKind::Prove
+        | CommandKind::Emit(_) => false,
     }
 }
 
@@ -96,8 +100,8 @@ fn open_file<F: Shelf>(
 }
 
 // The most bytes of a file that a command takes. Which edition a target is of is known only when it was read.
-fn longest_of(kind: CommandKind) -> usize
-    ensures is { (flags : Flags) (form : ReplyForm) (file : List ℕ) → result ≡ text_most (command_on kind flags form file) Two }
+fn longest_of(kind: CommandKind<'_>) -> usize
+    ensures is { (flags : Flags) (form : ReplyForm) (file : List ℕ) → result ≡ text_most (command_on kind.entry flags form file) Two }
     ensures small { result < 2 ^ 31 }
 {
     match kind {
@@ -105,8 +109,9 @@ fn longest_of(kind: CommandKind) -> usize
         CommandKind::Compile
         | CommandKind::Run
         | CommandKind::Pre
-        | CommandKind::Check
-        | CommandKind::Prove => longest_text(),
+        | CommandKind::Check(_)
+        | CommandKind::Prove
+        | CommandKind::Emit(_) => longest_text(),
     }
 }
 
@@ -145,9 +150,11 @@ fn read(
     match command.kind {
         CommandKind::Run => run_replier(alloc, command.flags, command.form, front, passes),
         CommandKind::Exec => exec_replier(alloc, command.form, front),
-        CommandKind::Compile | CommandKind::Pre | CommandKind::Check | CommandKind::Prove => {
-            unreachable!()
-        }
+        CommandKind::Compile
+        | CommandKind::Pre
+        | CommandKind::Check(_)
+        | CommandKind::Prove
+        | CommandKind::Emit(_) => { unreachable!() }
     }
 }
 

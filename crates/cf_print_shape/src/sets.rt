@@ -51,9 +51,9 @@ pub fn block_uses_sets(block: &Block) -> bool
     }
 }
 
-// An operation on sets, or one that makes a set, is in the code.
+/// Whether an operation on sets, or one that makes a set, is in a code.
 #[cycle(sets)]
-fn uses_sets(code: &Code) -> bool
+pub fn uses_sets(code: &Code) -> bool
     ensures { result ≡ uses_of (code_tree code.now) }
 {
     match code {

@@ -37,7 +37,8 @@ pub made_problem : (systems : List DeclaredSystem) (all : List Conjunction) (n :
     p ≡ record { conjunctions = all ++ one_of n ∷ []; root = n } → IsProblemOf (map system_of systems) p
 made_problem systems all n p e f is = record {
   conjunctions_are =
-      ap (λ q. q.conjunctions) is ∙ ap (λ cs. cs ++ one_of n ∷ []) (f ∙ twice_mapped systems) ∙ ap (λ k. map conjunction_of (map system_of systems) ++ one_of k ∷ [])
+      ap (λ q. q.conjunctions) is ∙ ap (λ cs. cs ++ one_of n ∷ []) (f ∙ twice_mapped systems) ∙
+      ap (λ k. map conjunction_of (map system_of systems) ++ one_of k ∷ [])
       (e ∙ sym (length-map systems system_of));
   root_is = ap (λ q. q.root) is ∙ e ∙ sym (length-map systems system_of);
 }

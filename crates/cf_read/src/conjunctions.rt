@@ -36,7 +36,7 @@ fn conjunctions(alloc: Global, systems: &[System]) -> Result<Vec<Conjunction>, N
     Ok(all)
 }
 
-fn push(all: &mut Vec<Conjunction>, one: Conjunction) -> Result<(), NoMemory>
+pub(crate) fn push(all: &mut Vec<Conjunction>, one: Conjunction) -> Result<(), NoMemory>
     ensures { all.new.items ≡ (if is_ok result then all.old.items ++ one ∷ [] else all.old.items) }
 {
     match all.push(one) {
@@ -75,7 +75,8 @@ fn push_rows(
     Ok(())
 }
 
-fn push_fact(facts: &mut Vec<Fact>, kind: FactKind, row: Row) -> Result<(), NoMemory>
+// Adds a fact to the end.
+pub(crate) fn push_fact(facts: &mut Vec<Fact>, kind: FactKind, row: Row) -> Result<(), NoMemory>
     ensures { facts.new.items ≡ (if is_ok result then facts.old.items ++ fact_as kind row ∷ [] else facts.old.items) }
 {
     match facts.push(Fact { kind, row }) {

@@ -10,7 +10,7 @@ ghost use Rattle.cf_read.specs.Reading.{NeverHolds};
 
 use cf_choose::ChooseFault;
 use cf_guide::{Finder, Limits, Outcome};
-use cf_read::{RelationProblem, read};
+use cf_read::{RelationProblem, read_whole};
 use cf_tree::{Base, Rel};
 use std::alloc::Global;
 
@@ -18,7 +18,7 @@ use std::alloc::Global;
 /// `scope`: Closed only where the relation never holds. A model has the columns of the relation's layout.
 ///
 /// # Errors
-/// `Refused` where the relation passes a limit of its cases, `NoMemory` where memory ran out.
+/// `Refused` where the relation has too many sets or a number in its rows passes the limit, `NoMemory` where memory ran out.
 pub fn refute(
     alloc: Global,
     scope: &[Base],
@@ -30,7 +30,7 @@ pub fn refute(
     requires linear { IsLinear (rel_tree rel.now) }
     ensures { IfOk result (λ o. o ≡ Closed → NeverHolds scope.now outputs.now (rel_tree rel.now)) }
 {
-    match read(alloc, scope, outputs, rel) {
+    match read_whole(alloc, scope, outputs, rel) {
         Ok(asked) => answer(alloc, asked, limits),
         Err(fault) => Err(fault),
     }

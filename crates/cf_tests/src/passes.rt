@@ -231,6 +231,51 @@ const MORE_CASES: [Case; 8] = [
     },
 ];
 
+/// A program with sets.
+const SETS: &str = "def main(s: set): int = card(s)\n";
+
+/// `emit` in C, whose file is longer than a reply.
+const EMIT: Call<'static> = Call {
+    command: "emit",
+    operand: "c",
+    flags: &["program"],
+    faults: Faults {
+        room: 10_000,
+        ..NONE
+    },
+    ..COMPILE
+};
+
+const EMIT_CASES: [Case; 4] = [
+    Case {
+        calls: 1,
+        call: EMIT,
+        ..UNCALLED
+    },
+    Case {
+        status: Status::Types,
+        call: Call { text: SETS, ..EMIT },
+        ..UNCALLED
+    },
+    Case {
+        calls: 1,
+        call: Call {
+            operand: "js",
+            text: SETS,
+            ..EMIT
+        },
+        ..UNCALLED
+    },
+    Case {
+        status: Status::NoMemory,
+        call: Call {
+            operand: "rust",
+            ..EMIT
+        },
+        ..UNCALLED
+    },
+];
+
 #[test]
 fn each_pass_is_called_where_it_is_asked_for_and_dropped_once(rt: HostRuntime) -> Result<(), Fail> {
     for case in &CASES {
@@ -246,6 +291,18 @@ fn each_pass_is_called_where_it_is_asked_for_and_dropped_once(rt: HostRuntime) -
 #[test]
 fn each_pass_is_dropped_once_however_the_call_ends(rt: HostRuntime) -> Result<(), Fail> {
     for case in &MORE_CASES {
+        let seen = nothing_seen(rt.alloc())?;
+        let status = seen_by(rt.alloc(), &case.call, &seen)?;
+        assert!(rt;
+            status == case.status && seen.calls.get() == case.calls && seen.drops.get() == 1
+        );
+    }
+    Ok(())
+}
+
+#[test]
+fn each_pass_is_called_where_a_program_is_emitted(rt: HostRuntime) -> Result<(), Fail> {
+    for case in &EMIT_CASES {
         let seen = nothing_seen(rt.alloc())?;
         let status = seen_by(rt.alloc(), &case.call, &seen)?;
         assert!(rt;

@@ -1,27 +1,34 @@
 -- Which status a call has where the texts of its files are told and no file failed, and what the answer to the words is.
 use Rattle.std.proofs.Common.{◌≡◌, ◌⊎◌, inl, inr, ◌∙◌, sym, ap, refl, ℕ, true, false, List, [], ◌∷◌, length, map, Option, Some, None, subst, arith, codes}
-use Rattle.std.specs.Prelude.{Result, Err, if◌then◌else◌}
+use Rattle.std.specs.Prelude.{Result, Ok, Err, if◌then◌else◌}
 use Rattle.std.specs.Str.{bytes_eq}
 use Rattle.cf_io.specs.Causes.{one_more}
 use Rattle.cf_io.specs.Limits.{input_limit}
 use Rattle.cf_io.specs.Seen.{SourceSeen, SinkSeen}
-use Rattle.cf_pass.specs.Passes.{Told}
-use Rattle.cf_words.specs.Commands.{Command, compile, run, verify}
+use Rattle.cf_pass.specs.Passes.{Told as PassTold}
+use Rattle.cf_words.specs.Commands.{Command, check, compile, run, verify}
+use Rattle.cf_words.specs.declared.command.Strictness.{Strictness}
+use Rattle.cf_words.specs.declared.command.Strictness.TheVariants.{Told, Existing, Unique}
 use Rattle.cf_answer.specs.Outside.{Outside, outside}
+use Rattle.cf_answer.specs.Owed.{AreSourceChecks}
 use Rattle.cf_answer.specs.Refusals.{Refuses, IsAccepted}
 use Rattle.cf_answer.specs.Statuses.{fault_status, status_of}
 use Rattle.cf_answer.specs.Texts.{answer_line}
+use Rattle.cf_answer.specs.Unmet.{answered, nothing_unmet, one_no, one_undecided}
 use Rattle.cf_answer.specs.declared.fault.Fault.{Fault}
 use Rattle.cf_answer.specs.declared.fault.Fault.TheVariants as fault
 use Rattle.cf_answer.specs.declared.status.Status.{Status}
-use Rattle.cf_answer.specs.declared.status.Status.TheVariants.{Done, Usage, File, Input, Output, Text, Types, InputLong, NoMemory}
-use Rattle.cf_top.specs.Top.{IsShort, IsLong, IsOverfull, IsComplete, Completes, TopAnswer}
+use Rattle.cf_answer.specs.declared.status.Status.TheVariants.{Done, Usage, File, Input, Output, Text, Types, InputLong, NoMemory, AnswersNo, AnswersUndecided}
+use Rattle.cf_top.specs.Top.{IsShort, IsLong, IsJudged, IsOverfull, IsComplete, Completes, TopAnswer}
 
 abbrev compiles : Command
 compiles = compile (record { plain = false; stats = false }) (codes "a")
 
 abbrev runs : Command
 runs = run (record { plain = false; stats = false }) (record { key = false; jsonl = false }) (codes "a")
+
+abbrev strict : Strictness → Command
+strict strictness = check strictness (codes "a")
 
 abbrev one_file : List (List ℕ)
 one_file = codes "1" ∷ []
@@ -72,7 +79,7 @@ output-though_refused r c = one-of Output (c.refused fault.TextTooLong r) (λ e.
 -- an accepted one is done, or memory ran out; it has any status where the input or `out` failed
 module _ (accepted : IsAccepted compiles one_file) where
   accepted-done : IsComplete compiles one_file None Done
-  accepted-done = record { refused = λ f r. absurd (accepted f r); done = λ a i o s. inl refl; too_long = λ a i o l. absurd l }
+  accepted-done = record { refused = λ f r. absurd (accepted f r); done = λ a i o s. inl ([], Ok tt, refl, refl); too_long = λ a i o l. absurd l }
 
   accepted-without_memory : IsComplete compiles one_file None NoMemory
   accepted-without_memory = record { refused = λ f r. absurd (accepted f r); done = λ a i o s. inr (inl refl); too_long = λ a i o l. absurd l }
@@ -86,8 +93,8 @@ module _ (accepted : IsAccepted compiles one_file) where
   accepted-not_refused : IsComplete compiles one_file None Types → ⊥
   accepted-not_refused c = no (c.done accepted (λ e. cc e) (λ e. cc e) tt)
     where
-      no : (Types ≡ Done) ⊎ (Types ≡ NoMemory) ⊎ IsOverfull compiles one_file Types → ⊥
-      no (inl e) = cc e
+      no : IsJudged compiles one_file Types ⊎ (Types ≡ NoMemory) ⊎ IsOverfull compiles one_file Types → ⊥
+      no (inl (text, answer, ok, is)) = let same : Types ≡ Done = is ∙ ap status_of ok in cc same
       no (inr (inl e)) = cc e
       no (inr (inr o)) = cc (o.is)
 
@@ -96,8 +103,8 @@ module _ (accepted : IsAccepted runs one_file) where
   short-done : IsShort (Some input_limit) true (Some (codes "1\n")) → IsComplete runs one_file (Some (codes "1\n")) InputLong → ⊥
   short-done short c = no (c.done accepted (λ e. cc e) (λ e. cc e) short)
     where
-      no : (InputLong ≡ Done) ⊎ (InputLong ≡ NoMemory) ⊎ IsOverfull runs one_file InputLong → ⊥
-      no (inl e) = cc e
+      no : IsJudged runs one_file InputLong ⊎ (InputLong ≡ NoMemory) ⊎ IsOverfull runs one_file InputLong → ⊥
+      no (inl (text, answer, ok, is)) = let same : InputLong ≡ Done = is ∙ ap status_of ok in cc same
       no (inr (inl e)) = cc e
       no (inr (inr o)) = cc (o.is)
 
@@ -119,12 +126,33 @@ module _ (accepted : IsAccepted runs one_file) where
   untold-done : IsComplete runs one_file None Done
   untold-done = record {
     refused = λ f r. absurd (accepted f r);
-    done = λ a i o s. inl refl;
+    done = λ a i o s. inl ([], Ok tt, refl, refl);
     too_long = λ a i o l. absurd (no l.0 l.1);
   }
     where
       no : (bytes : List ℕ) → None ≡ Some bytes → ⊥
       no bytes e = cc e
+
+-- ---- a strict check
+-- it has the status of what its lines answer
+strict-no : (text : List ℕ) → AreSourceChecks (codes "1") text (answered one_no one_undecided) → IsJudged (strict Existing) one_file AnswersNo
+strict-no text checks = (text, Err (fault.AnswersNo 1), (answered one_no one_undecided, checks, refl), refl)
+
+-- of uniqueness it is asked by `--unique` alone
+strict-not_asked : (text : List ℕ) → AreSourceChecks (codes "1") text (answered nothing_unmet one_undecided) → IsJudged (strict Existing) one_file Done
+strict-not_asked text checks = (text, Ok tt, (answered nothing_unmet one_undecided, checks, refl), refl)
+
+strict-undecided : (text : List ℕ) → AreSourceChecks (codes "1") text (answered nothing_unmet one_undecided) →
+    IsJudged (strict Unique) one_file AnswersUndecided
+strict-undecided text checks = (text, Err (fault.AnswersUndecided 1), (answered nothing_unmet one_undecided, checks, refl), refl)
+
+-- without the flags it is done
+check-done : (text : List ℕ) → AreSourceChecks (codes "1") text (answered one_no one_no) → IsJudged (strict Told) one_file Done
+check-done text checks = (text, Ok tt, (answered one_no one_no, checks, refl), refl)
+
+-- no other command has these statuses
+compile-not_no : IsJudged compiles one_file AnswersNo → ⊥
+compile-not_no (text, answer, ok, is) = let same : AnswersNo ≡ Done = is ∙ ap status_of ok in cc same
 
 -- ---- the texts of the files
 abbrev texts : List ℕ → Option (List ℕ)
@@ -167,14 +195,14 @@ completes-untold status files told whole = absurd (no files told)
     no (f ∷ fs) e = cc e
 
 -- ---- the answer to words that are no command
-abbrev passes : List Told
+abbrev passes : List PassTold
 passes = record { name = codes "fold"; tally = 12; turns = 3; makes = λ n c. c; whole = true } ∷ []
 
 abbrev errors : List ℕ → ℕ → SinkSeen
 errors bytes faults = record { held = Some bytes; faults = faults }
 
 abbrev usage : List ℕ
-usage = codes "usage: comfusy compile|pre|check|run|exec|prove FILE, or comfusy verify FILE STEPS, or comfusy gen N, or comfusy --help\n"
+usage = codes "usage: comfusy compile|pre|check|run|exec|prove FILE, or comfusy emit LANG FILE, or comfusy verify FILE STEPS, or comfusy gen N, or comfusy --help\n"
 
 refused-words : TopAnswer None passes before before (errors [] 0) (errors usage 0) Usage
 refused-words = record {
@@ -199,7 +227,7 @@ refused-words_untold = record {
   told = record {
     prefix = (
       codes "usa",
-      codes "ge: comfusy compile|pre|check|run|exec|prove FILE, or comfusy verify FILE STEPS, or comfusy gen N, or comfusy --help\n",
+      codes "ge: comfusy compile|pre|check|run|exec|prove FILE, or comfusy emit LANG FILE, or comfusy verify FILE STEPS, or comfusy gen N, or comfusy --help\n",
       refl,
       refl,
     );

@@ -18,7 +18,7 @@ use Rattle.cf_answer.specs.declared.status.Status.TheVariants.{NoMemory}
 use Rattle.cf_answer.specs.declared.fault.Fault.{Fault}
 use Rattle.cf_answer.specs.declared.fault.Fault.TheVariants as fault
 use Rattle.cf_words.specs.declared.command.CommandKind.{CommandKind}
-use Rattle.cf_words.specs.declared.command.CommandKind.TheVariants.{Compile, Run, Pre, Check, Exec, Prove}
+use Rattle.cf_words.specs.declared.command.CommandKind.TheVariants.{Compile, Run, Pre, Check, Exec, Prove, Emit}
 use Rattle.cf_words.specs.declared.command.Flags.{Flags}
 use Rattle.cf_words.specs.declared.command.ReplyForm.{ReplyForm}
 use Rattle.cf_answer.proofs.CountLemmas.{one_fault}
@@ -33,9 +33,10 @@ pub one_name : (kind : CommandKind) (flags : Flags) (form : ReplyForm) (name : L
 one_name Compile flags form name = refl
 one_name Run flags form name = refl
 one_name Pre flags form name = refl
-one_name Check flags form name = refl
+one_name (Check strictness) flags form name = refl
 one_name Exec flags form name = refl
 one_name Prove flags form name = refl
+one_name (Emit e) flags form name = refl
 
 pub reads_a_file : (kind : CommandKind) (flags : Flags) (form : ReplyForm) (name : List ℕ) → names_of (command_on kind flags form name) ≡ [] → ⊥
 reads_a_file kind flags form name none = let one : names_of (command_on kind flags form name) ≡ name ∷ [] = one_name kind flags form name in cc
@@ -59,7 +60,8 @@ pub record FileRead (c : Command) (name : List ℕ) (before after : ShelfSeen) :
   pub given : after.given ≤ before.given + (limit + 1)
   pub ends : after.ends ≤ before.ends + 1
 
-abbrev pub file_read : (c : Command) (name : List ℕ) (before after : ShelfSeen) (limit : ℕ) → ((files : List (List ℕ)) → limit ≡ text_most c (edition_for files)) →
+abbrev pub file_read : (c : Command) (name : List ℕ) (before after : ShelfSeen) (limit : ℕ) →
+    ((files : List (List ℕ)) → limit ≡ text_most c (edition_for files)) →
     after.fetches ≡ one_more before.fetches →
     (after.left ≡ before.left) ⊎ TookFront (limit + 1) (before.texts name) after.left → after.given ≤ before.given + (limit + 1) →
     after.ends ≤ before.ends + 1 → FileRead c name before after
@@ -159,9 +161,10 @@ long_refused : (kind : CommandKind) (flags : Flags) (form : ReplyForm) (name tex
 long_refused Compile flags form name text h = too_long h
 long_refused Run flags form name text h = too_long h
 long_refused Pre flags form name text h = too_long h
-long_refused Check flags form name text h = too_long h
+long_refused (Check strictness) flags form name text h = too_long h
 long_refused Exec flags form name text h = too_long (past_its_own (edition_for (text ∷ [])) (length text) h)
 long_refused Prove flags form name text h = too_long h
+long_refused (Emit e) flags form name text h = too_long h
 
 pub long_does : (kind : CommandKind) (flags : Flags) (form : ReplyForm) (name : List ℕ) (given : List Told) (before after : Outside)
     (file : FileRead (command_on kind flags form name) name before.shelf after.shelf) →
@@ -278,9 +281,10 @@ pub file_in_order : (kind : CommandKind) (flags : Flags) (form : ReplyForm) (nam
 file_in_order Compile flags form name before after status = tt
 file_in_order Run flags form name before after status = tt
 file_in_order Pre flags form name before after status = tt
-file_in_order Check flags form name before after status = tt
+file_in_order (Check strictness) flags form name before after status = tt
 file_in_order Exec flags form name before after status = tt
 file_in_order Prove flags form name before after status = tt
+file_in_order (Emit e) flags form name before after status = tt
 
 pub order_of : (command : Option Command) (before after : ShelfSeen) (known status : Status) → status ≡ known →
     IfSome command (λ c. IsInOrder c before after known) → IfSome command (λ c. IsInOrder c before after status)

@@ -7,16 +7,16 @@ use Rattle.cf_io.specs.Seen.{SinkSeen}
 use Rattle.cf_pass.specs.Passes.{Told}
 use Rattle.cf_words.specs.Commands.{Command, compile, prove}
 use Rattle.cf_answer.specs.Commands.{names_of, reads_input}
-use Rattle.cf_answer.specs.Ends.{Job, Reads, IsReadUp, Wrote, Ends, Does, Answers}
+use Rattle.cf_answer.specs.Ends.{Job, Reads, IsReadUp, Wrote, IsDone, Ends, Does, Answers}
 use Rattle.cf_answer.specs.Limits.{input_most}
 use Rattle.cf_answer.specs.Outside.{Outside, Streams, AreTold, AreTexts}
 use Rattle.cf_answer.specs.Refusals.{Refuses, IsAccepted}
 use Rattle.cf_answer.specs.Statuses.{fault_status, status_of}
-use Rattle.cf_top.specs.Top.{IsShort, IsLong, IsOverfull, IsComplete, Completes, TopAnswer}
+use Rattle.cf_top.specs.Top.{IsShort, IsLong, IsJudged, IsOverfull, IsComplete, Completes, TopAnswer}
 use Rattle.cf_answer.specs.declared.fault.Fault.{Fault}
 use Rattle.cf_answer.specs.declared.fault.Fault.TheVariants as fault
 use Rattle.cf_answer.specs.declared.status.Status.{Status}
-use Rattle.cf_answer.specs.declared.status.Status.TheVariants.{Done, Usage, File, Input, Output, InputLong, NoMemory}
+use Rattle.cf_answer.specs.declared.status.Status.TheVariants.{Usage, File, Input, Output, InputLong, NoMemory}
 use Rattle.cf_answer.proofs.CountLemmas.{rose_once}
 use Rattle.cf_answer.proofs.OwedLemmas.{refused_alike, owed_accepted}
 
@@ -74,7 +74,8 @@ data Settled (command : Command) (files : List (List ℕ)) (input : Option (List
   input_failed : IsAccepted command files → status ≡ Input → Settled command files input status
   out_failed : IsAccepted command files → status ≡ Output → Settled command files input status
   stopped : (f : Fault) → Refuses command files f → status ≡ fault_status f → Settled command files input status
-  finished : IsAccepted command files → (IsLong (input_most files) (reads_input command) input → ⊥) → status ≡ Done → Settled command files input status
+  finished : IsAccepted command files → (IsLong (input_most files) (reads_input command) input → ⊥) → IsJudged command files status →
+      Settled command files input status
   overfull : IsAccepted command files → IsOverfull command files status → Settled command files input status
   overlong : IsAccepted command files → (IsShort (input_most files) (reads_input command) input → ⊥) → status ≡ InputLong → Settled command files input status
 
@@ -83,12 +84,18 @@ wrote_accepted : (job : Job) (before after : Streams) (Took : Option (List ℕ) 
     Wrote job before after Took front ls end → IsAccepted job.command job.files
 wrote_accepted job before after Took front ls end w = owed_accepted job.command job.files job.given job.passes ls w.text w.owed
 
+judged_by : (job : Job) (before after : Streams) (status : Status) (answer : Result (Unit {0}) Fault) → IsDone job before after answer →
+    status ≡ status_of answer → Settled job.command job.files before.input.left status
+judged_by job before after status answer h is =
+    finished (wrote_accepted job before after _ _ _ _ h.3)
+    (read_all (input_most job.files) (reads_input job.command) before.input.left after.input.left h.0 h.3.read h.1 h.2) (h.3.text, answer, h.4, is)
+
 settled_by : (job : Job) (before after : Streams) (status : Status) (answer : Result (Unit {0}) Fault) → Ends job before after answer →
     status ≡ status_of answer → (status ≡ File → ⊥) →
     Settled job.command job.files before.input.left status
-settled_by job before after status (Ok done) h is nf =
-    finished (wrote_accepted job before after _ _ _ _ h.3)
-    (read_all (input_most job.files) (reads_input job.command) before.input.left after.input.left h.0 h.3.read h.1 h.2) is
+settled_by job before after status (Ok done) h is nf = judged_by job before after status (Ok tt) h is
+settled_by job before after status (Err (fault.AnswersNo n)) h is nf = judged_by job before after status (Err (fault.AnswersNo n)) h is
+settled_by job before after status (Err (fault.AnswersUndecided n)) h is nf = judged_by job before after status (Err (fault.AnswersUndecided n)) h is
 settled_by job before after status (Err fault.Input) h is nf = input_failed (wrote_accepted job before after _ _ _ _ h.3) is
 settled_by job before after status (Err fault.InputTooLong) h is nf =
     overlong (wrote_accepted job before after _ _ _ _ h.2)
@@ -113,7 +120,7 @@ when_refused command files input status (overlong a n is) f h = absurd (a f h)
 
 when_short : (command : Command) (files : List (List ℕ)) (input : Option (List ℕ)) (status : Status) → Settled command files input status →
     IsAccepted command files → (status ≡ Input → ⊥) → (status ≡ Output → ⊥) →
-    IsShort (input_most files) (reads_input command) input → (status ≡ Done) ⊎ (status ≡ NoMemory) ⊎ IsOverfull command files status
+    IsShort (input_most files) (reads_input command) input → IsJudged command files status ⊎ (status ≡ NoMemory) ⊎ IsOverfull command files status
 when_short command files input status (no_memory is) a ni nout short = inr (inl is)
 when_short command files input status (overfull b o) a ni nout short = inr (inr o)
 when_short command files input status (input_failed b is) a ni nout short = absurd (ni is)

@@ -11,14 +11,14 @@ use Rattle.cf_answer.specs.Commands.{names_of, reads_input, output_most}
 use Rattle.cf_answer.specs.Ends.{Answers}
 use Rattle.cf_answer.specs.Limits.{edition_for, input_most}
 use Rattle.cf_answer.specs.Outside.{Outside}
-use Rattle.cf_answer.specs.Owed.{Owes}
+use Rattle.cf_answer.specs.Owed.{Owes, Judges}
 use Rattle.cf_answer.specs.Passes.{closing}
 use Rattle.cf_answer.specs.Refusals.{Refuses, IsAccepted}
 use Rattle.cf_answer.specs.Statuses.{fault_status, status_of}
 use Rattle.cf_answer.specs.Written.{IsWrittenBy}
 use Rattle.cf_answer.specs.declared.fault.Fault.{Fault}
 use Rattle.cf_answer.specs.declared.status.Status.{Status}
-use Rattle.cf_answer.specs.declared.status.Status.TheVariants.{Done, File, Input, Output, Limit, InputLong, NoMemory}
+use Rattle.cf_answer.specs.declared.status.Status.TheVariants.{File, Input, Output, Limit, InputLong, NoMemory}
 
 -- it took a prefix of these bytes, and all of them unless it failed, once
 pub record IsTold (before after : SinkSeen) (text : List ℕ) : Type 0 where
@@ -54,12 +54,16 @@ pub record IsOverfull (command : Command) (files : List (List ℕ)) (status : St
   pub owed : Owes command files given passes [] text
   pub past : IsPast (output_most command (edition_for files)) (length (text ++ closing command passes))
 
--- A command that is refused on its files has the status of that fault, whatever the input and `out` did. One that is not is done where neither of them
--- failed, unless the input is too long, or what it is to write. Or memory ran out.
+-- the status is that to which a command comes on these files: that it is done, or for a strict `check` that of its answers
+abbrev pub IsJudged : Command → List (List ℕ) → Status → Type 0
+IsJudged command files status = (text : List ℕ) × (answer : Result (Unit {0}) Fault) × Judges command files text answer × (status ≡ status_of answer)
+
+-- A command that is refused on its files has the status of that fault, whatever the input and `out` did. One that is not is done, or ends by its answers, where
+-- neither of them failed, unless the input is too long, or what it is to write. Or memory ran out.
 pub record IsComplete (command : Command) (files : List (List ℕ)) (input : Option (List ℕ)) (status : Status) : Type 0 where
   pub refused : (f : Fault) → Refuses command files f → (status ≡ fault_status f) ⊎ (status ≡ NoMemory)
   pub done : IsAccepted command files → (status ≡ Input → ⊥) → (status ≡ Output → ⊥) → IsShort (input_most files) (reads_input command) input →
-      (status ≡ Done) ⊎ (status ≡ NoMemory) ⊎ IsOverfull command files status
+      IsJudged command files status ⊎ (status ≡ NoMemory) ⊎ IsOverfull command files status
   pub too_long : IsAccepted command files → (status ≡ Input → ⊥) → (status ≡ Output → ⊥) → IsLong (input_most files) (reads_input command) input →
       (status ≡ InputLong) ⊎ (status ≡ NoMemory)
 

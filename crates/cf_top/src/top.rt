@@ -17,8 +17,8 @@ ghost use Rattle.cf_words.specs.Words.{command_of, may_be_read};
 
 use cf_answer::{
     Ended, Fault, Status, longest_text, longest_written, run_source, run_target, status_of, tell,
-    verify_files, write_blocks, write_checks, write_help, write_preconditions, write_target,
-    write_version, write_workload,
+    verify_files, write_blocks, write_checks, write_emitted, write_help, write_preconditions,
+    write_target, write_version, write_workload,
 };
 use cf_io::{FetchFault, Shelf, Sink, Source, read_front};
 use cf_pass::Pass;
@@ -168,9 +168,9 @@ fn answer_front<I: Source, O: Sink>(
 }
 
 // The most bytes of a file that a command takes. Which edition a target is of is known only when it was read.
-fn longest_of(kind: CommandKind) -> usize
+fn longest_of(kind: CommandKind<'_>) -> usize
     ensures is { (flags : Flags) (form : ReplyForm) (file : List ℕ) (files : List (List ℕ)) →
-        result ≡ text_most (command_on kind flags form file) (edition_for files) }
+        result ≡ text_most (command_on kind.entry flags form file) (edition_for files) }
     ensures small { result < 2 ^ 31 }
 {
     match kind {
@@ -178,8 +178,9 @@ fn longest_of(kind: CommandKind) -> usize
         CommandKind::Compile
         | CommandKind::Run
         | CommandKind::Pre
-        | CommandKind::Check
-        | CommandKind::Prove => longest_text(),
+        | CommandKind::Check(_)
+        | CommandKind::Prove
+        | CommandKind::Emit(_) => longest_text(),
     }
 }
 
@@ -206,8 +207,9 @@ fn answer_text<I: Source, O: Sink>(
         CommandKind::Compile => write_target(alloc, flags, text, out, passes),
         CommandKind::Run => run_source(alloc, flags, command.form, text, input, out, passes),
         CommandKind::Pre => write_preconditions(alloc, text, out),
-        CommandKind::Check => write_checks(alloc, text, out),
+        CommandKind::Check(strictness) => write_checks(alloc, strictness, text, out),
         CommandKind::Exec => run_target(alloc, command.form, text, input, out),
         CommandKind::Prove => write_blocks(alloc, text, out),
+        CommandKind::Emit(emitting) => write_emitted(alloc, &emitting, text, out, passes),
     }
 }

@@ -12,7 +12,7 @@ ghost use Rattle.cf_warn.specs.Verdicts.{IsExistence};
 
 use crate::answer::{Doubt, ExistenceAnswer};
 use crate::ask::{Asked, ask};
-use crate::none::none;
+use crate::none_question::none;
 use crate::tuples::tuple_count;
 use crate::used_parameters::parameters;
 use cf_choose::Solved;

@@ -7,7 +7,7 @@ ghost use Rattle.cf_warn.specs.Answering.{IsAsked, IsTwoOf};
 
 use crate::answer::UniquenessAnswer;
 use crate::ask::{Asked, ask};
-use crate::twice::{twice, twice_outputs};
+use crate::twice_question::{twice, twice_outputs};
 use crate::used_parameters::parameters;
 use cf_choose::Solved;
 use cf_eval::Value;

@@ -14,10 +14,11 @@ use Rattle.clap.specs.declared.builder.value_parser.Reading.TheVariants.{AsWritt
 use Rattle.clap.specs.declared.parser.matches.ValueSource.TheVariants.{CommandLine, DefaultValue}
 use Rattle.cf_words.proofs.RowLemmas.{added, defaulted, found, has_row_is, kept, row_at, row_of_values}
 use Rattle.cf_words.specs.Grammar.{flag as the_flag, flagged_subcommand, found_unless, operand as the_operand, program}
-use Rattle.cf_words.specs.Words.{flags_in, form_in, only, operands, stands, stands_twice}
+use Rattle.cf_words.specs.Words.{checks_in, flags_in, form_in, only, operands, stands, stands_twice}
+use Rattle.cf_words.specs.declared.command.CheckFlags.{CheckFlags}
 use Rattle.cf_words.specs.declared.command.Flags.{Flags}
 use Rattle.cf_words.specs.declared.command.ReplyForm.{ReplyForm}
-use Rattle.cf_words.proofs.Uses.{AreOnce, Flag, IsOperand, Use, flag_id, flag_is, flag_not, flag_word, words_of, plain, stats, key, jsonl, flag, operand}
+use Rattle.cf_words.proofs.Uses.{AreOnce, Flag, IsOperand, Use, flag_id, flag_is, flag_not, flag_word, words_of, plain, stats, key, jsonl, strict, unique, flag, operand}
 use Rattle.cf_words.proofs.LevelLaws.{Asked, said, found_from, found_in, after_turn, passes, fails, at, flag_row, operand_row, operand_turn, operand_walk, given_or, cond_same}
 
 abbrev pub flagged : Text → Shape
@@ -41,6 +42,8 @@ module _ (name : Text) where
   flag_turn stats rows position unused = rw unused refl
   flag_turn key rows position unused = rw unused refl
   flag_turn jsonl rows position unused = rw unused refl
+  flag_turn strict rows position unused = rw unused refl
+  flag_turn unique rows position unused = rw unused refl
 
   flag_walk : (f : Flag) (rows : List Row) (position : ℕ) → row_at (flag_id f) rows ≡ None
       → walked (flagged name).rules [] (at rows None position) (flag_word f) ≡ at (rows ++ flag_row (flag_id f) ∷ []) None position
@@ -49,6 +52,8 @@ module _ (name : Text) where
   flag_walk stats rows position none = ap (λ rs. at rs None position) (added (codes "stats") AsWritten CommandLine (codes "true" ∷ []) rows none)
   flag_walk key rows position none = ap (λ rs. at rs None position) (added (codes "key") AsWritten CommandLine (codes "true" ∷ []) rows none)
   flag_walk jsonl rows position none = ap (λ rs. at rs None position) (added (codes "jsonl") AsWritten CommandLine (codes "true" ∷ []) rows none)
+  flag_walk strict rows position none = ap (λ rs. at rs None position) (added (codes "strict") AsWritten CommandLine (codes "true" ∷ []) rows none)
+  flag_walk unique rows position none = ap (λ rs. at rs None position) (added (codes "unique") AsWritten CommandLine (codes "true" ∷ []) rows none)
 
   -- an operand that waits is settled by the next word, or by the end
   module _ (o : Text) (rows : List Row) (none : row_at (codes "operand") rows ≡ None) where
@@ -73,6 +78,8 @@ module _ (name : Text) where
     settles_walk stats = ap (walk_on stats) settled_rows_are
     settles_walk key = ap (walk_on key) settled_rows_are
     settles_walk jsonl = ap (walk_on jsonl) settled_rows_are
+    settles_walk strict = ap (walk_on strict) settled_rows_are
+    settles_walk unique = ap (walk_on unique) settled_rows_are
 
     settles_turn : (f : Flag) → turn_fault (flagged name) [] (at rows (Some o) 2) (flag_word f) ≡ turn_on f (rows ++ operand_row o ∷ [])
     unfolding clap_on_literals
@@ -80,6 +87,8 @@ module _ (name : Text) where
     settles_turn stats = rw unused (ap (turn_on stats) settled_rows_are)
     settles_turn key = rw unused (ap (turn_on key) settled_rows_are)
     settles_turn jsonl = rw unused (ap (turn_on jsonl) settled_rows_are)
+    settles_turn strict = rw unused (ap (turn_on strict) settled_rows_are)
+    settles_turn unique = rw unused (ap (turn_on unique) settled_rows_are)
 
     settled_before : (us : List Use)
         → found_from said (flagged name) (at rows (Some o) 2) (words_of us) ≡ found_from said (flagged name) (at (rows ++ operand_row o ∷ []) None 2)
@@ -98,29 +107,29 @@ flag_rule f = with_index 1 (filled (the_flag (flag_id f)))
 abbrev operand_rule : Rule
 operand_rule = with_index 1 (filled (the_operand (codes "operand")))
 
-abbrev default_row : Text → Row
+abbrev pub default_row : Text → Row
 default_row id = row_of_values id AsWritten DefaultValue (codes "false" ∷ [])
 
 -- the rows with the default of a flag, where it was not used
-abbrev with_flag_default : Text → Bool → List Row → List Row
+abbrev pub with_flag_default : Text → Bool → List Row → List Row
 with_flag_default id used rows = cond used rows (rows ++ default_row id ∷ [])
 
-abbrev flag_found : Text → Bool → Option Row
+abbrev pub flag_found : Text → Bool → Option Row
 flag_found id used = cond used (Some (flag_row id)) None
 
-flag_default : (id : Text) (used : Bool) (rows : List Row) → row_at id rows ≡ flag_found id used
+pub flag_default : (id : Text) (used : Bool) (rows : List Row) → row_at id rows ≡ flag_found id used
     → cond (has_row id rows) rows (with_values id AsWritten DefaultValue (codes "false" ∷ []) rows) ≡ with_flag_default id used rows
 flag_default id true rows h =
     ap (λ b. cond b rows (with_values id AsWritten DefaultValue (codes "false" ∷ []) rows)) (has_row_is id rows ∙ ap (λ r. is_some r) h)
 flag_default id false rows h = ap₂ (λ b rs. cond b rows rs) (has_row_is id rows ∙ ap (λ r. is_some r) h)
     (defaulted id AsWritten DefaultValue (codes "false" ∷ []) rows h)
 
-own_default : (id : Text) (used : Bool) (rows : List Row) → bytes_eq id id ≡ true → row_at id rows ≡ flag_found id used
+pub own_default : (id : Text) (used : Bool) (rows : List Row) → bytes_eq id id ≡ true → row_at id rows ≡ flag_found id used
     → row_at id (with_flag_default id used rows) ≡ Some (cond used (flag_row id) (default_row id))
 own_default id true rows same h = h
 own_default id false rows same h = found id (default_row id) rows same h
 
-other_default : (id other : Text) (used : Bool) (rows : List Row) → bytes_eq id other ≡ false
+pub other_default : (id other : Text) (used : Bool) (rows : List Row) → bytes_eq id other ≡ false
     → row_at other (with_flag_default id used rows) ≡ row_at other rows
 other_default id other true rows apart = refl
 other_default id other false rows apart = kept other (default_row id) rows apart
@@ -131,6 +140,9 @@ flags_by came = record { plain = came plain; stats = came stats }
 
 abbrev form_by : (Flag → Bool) → ReplyForm
 form_by came = record { key = came key; jsonl = came jsonl }
+
+abbrev checks_by : (Flag → Bool) → CheckFlags
+checks_by came = record { strict = came strict; unique = came unique }
 
 -- what the rows at the end have, and what is found in them
 abbrev text_in : Option Row → Option Text
@@ -143,11 +155,12 @@ abbrev of_rows : (Flag → Option Row) → Option Row → Option Asked
 of_rows flag_rows operand_found =
     let given = option_map_or (λ x. explicit_source x.source) operand_found false in
     found_unless (check_kinds false false (not given || false))
-    (option_map (λ o. (flags_by (λ f. is_true (flag_rows f)), form_by (λ f. is_true (flag_rows f)), o)) (text_in operand_found))
+    (option_map (λ o. (flags_by (λ f. is_true (flag_rows f)), form_by (λ f. is_true (flag_rows f)), checks_by (λ f. is_true (flag_rows f)), o))
+    (text_in operand_found))
 
 -- what is asked by words behind these flags and this operand
 abbrev asked_with : (Flag → Bool) → List Text → Option Asked
-asked_with came operands = option_map (λ x. (flags_by came, form_by came, x)) (only operands)
+asked_with came operands = option_map (λ x. (flags_by came, form_by came, checks_by came, x)) (only operands)
 
 abbrev asked_behind : (Flag → Bool) → Option Text → List Text → Option Asked
 asked_behind came o words = asked_with (λ f. came f || stands (flag_word f) words) (given_or o (operands words))
@@ -161,7 +174,8 @@ row_is_true f false = refl
 
 answer_is : (came : Flag → Bool) (o : Option Text) → of_rows (λ f. Some (end_row f (came f))) (option_map operand_row o) ≡ asked_behind came o []
 answer_is came None = refl
-answer_is came (Some o) = λ i. Some (flags_by (λ f. row_is_true f (came f) i), form_by (λ f. row_is_true f (came f) i), o)
+answer_is came (Some o) =
+    λ i. Some (flags_by (λ f. row_is_true f (came f) i), form_by (λ f. row_is_true f (came f) i), checks_by (λ f. row_is_true f (came f) i), o)
 
 -- the rows tell these flags and this operand
 record Tells (came : Flag → Bool) (o : Option Text) (rows : List Row) : Type 0 where
@@ -183,8 +197,14 @@ module _ (name : Text) where
     abbrev past_key : List Row
     past_key = past key past_stats
 
+    abbrev past_jsonl : List Row
+    past_jsonl = past jsonl past_key
+
+    abbrev past_strict : List Row
+    past_strict = past strict past_jsonl
+
     abbrev past_all : List Row
-    past_all = past jsonl past_key
+    past_all = past unique past_strict
 
     apart : (id : Text) (f : Flag) (rs : List Row) → bytes_eq (flag_id f) id ≡ false → row_at id (past f rs) ≡ row_at id rs
     apart id f rs other = other_default (flag_id f) id (came f) rs other
@@ -199,31 +219,51 @@ module _ (name : Text) where
     jsonl_then =
         apart (codes "jsonl") key past_stats refl ∙ apart (codes "jsonl") stats past_plain refl ∙ apart (codes "jsonl") plain rows refl ∙ h.flags jsonl
 
+    strict_then : row_at (codes "strict") past_jsonl ≡ flag_found (codes "strict") (came strict)
+    strict_then =
+        apart (codes "strict") jsonl past_key refl ∙ apart (codes "strict") key past_stats refl ∙ apart (codes "strict") stats past_plain refl
+        ∙ apart (codes "strict") plain rows refl ∙ h.flags strict
+
+    unique_then : row_at (codes "unique") past_strict ≡ flag_found (codes "unique") (came unique)
+    unique_then =
+        apart (codes "unique") strict past_jsonl refl ∙ apart (codes "unique") jsonl past_key refl ∙ apart (codes "unique") key past_stats refl
+        ∙ apart (codes "unique") stats past_plain refl ∙ apart (codes "unique") plain rows refl ∙ h.flags unique
+
+    -- behind the flags of replies come those of `check`
+    behind_replies : (id : Text) → bytes_eq (codes "strict") id ≡ false → bytes_eq (codes "unique") id ≡ false → row_at id past_all ≡ row_at id past_jsonl
+    behind_replies id not_strict not_unique = apart id unique past_strict not_unique ∙ apart id strict past_jsonl not_strict
+
     end_is : (f : Flag) → row_at (flag_id f) past_all ≡ Some (end_row f (came f))
     end_is plain =
-        apart (codes "plain") jsonl past_key refl ∙ apart (codes "plain") key past_stats refl ∙ apart (codes "plain") stats past_plain refl
-        ∙ own_default (codes "plain") (came plain) rows refl (h.flags plain)
+        behind_replies (codes "plain") refl refl ∙ apart (codes "plain") jsonl past_key refl ∙ apart (codes "plain") key past_stats refl
+        ∙ apart (codes "plain") stats past_plain refl ∙ own_default (codes "plain") (came plain) rows refl (h.flags plain)
     end_is stats =
-        apart (codes "stats") jsonl past_key refl ∙ apart (codes "stats") key past_stats refl
+        behind_replies (codes "stats") refl refl ∙ apart (codes "stats") jsonl past_key refl ∙ apart (codes "stats") key past_stats refl
         ∙ own_default (codes "stats") (came stats) past_plain refl stats_then
-    end_is key = apart (codes "key") jsonl past_key refl ∙ own_default (codes "key") (came key) past_stats refl key_then
-    end_is jsonl = own_default (codes "jsonl") (came jsonl) past_key refl jsonl_then
+    end_is key =
+        behind_replies (codes "key") refl refl ∙ apart (codes "key") jsonl past_key refl ∙ own_default (codes "key") (came key) past_stats refl key_then
+    end_is jsonl = behind_replies (codes "jsonl") refl refl ∙ own_default (codes "jsonl") (came jsonl) past_key refl jsonl_then
+    end_is strict = apart (codes "strict") unique past_strict refl ∙ own_default (codes "strict") (came strict) past_jsonl refl strict_then
+    end_is unique = own_default (codes "unique") (came unique) past_strict refl unique_then
 
     operand_then : row_at (codes "operand") past_all ≡ option_map operand_row o
     operand_then =
-        apart (codes "operand") jsonl past_key refl ∙ apart (codes "operand") key past_stats refl ∙ apart (codes "operand") stats past_plain refl
-        ∙ apart (codes "operand") plain rows refl ∙ h.operand
+        behind_replies (codes "operand") refl refl ∙ apart (codes "operand") jsonl past_key refl ∙ apart (codes "operand") key past_stats refl
+        ∙ apart (codes "operand") stats past_plain refl ∙ apart (codes "operand") plain rows refl ∙ h.operand
 
     abbrev over : List Rule → List Row → List Row
     over rules rs = fold with_default rs rules
 
     finished_is : fold with_default rows (flagged name).rules ≡ past_all
     finished_is =
-        let last = with_default past_key (flag_rule jsonl) in
-        ap (over (flag_rule stats ∷ flag_rule key ∷ flag_rule jsonl ∷ operand_rule ∷ [])) (flag_default (codes "plain") (came plain) rows (h.flags plain))
-        ∙ ap (over (flag_rule key ∷ flag_rule jsonl ∷ operand_rule ∷ [])) (flag_default (codes "stats") (came stats) past_plain stats_then)
-        ∙ ap (over (flag_rule jsonl ∷ operand_rule ∷ [])) (flag_default (codes "key") (came key) past_stats key_then)
-        ∙ cond_same (has_row (codes "operand") last) last ∙ flag_default (codes "jsonl") (came jsonl) past_key jsonl_then
+        let last = with_default past_strict (flag_rule unique) in
+        let answers = flag_rule strict ∷ flag_rule unique ∷ operand_rule ∷ [] in
+        ap (over (flag_rule stats ∷ flag_rule key ∷ flag_rule jsonl ∷ answers)) (flag_default (codes "plain") (came plain) rows (h.flags plain))
+        ∙ ap (over (flag_rule key ∷ flag_rule jsonl ∷ answers)) (flag_default (codes "stats") (came stats) past_plain stats_then)
+        ∙ ap (over (flag_rule jsonl ∷ answers)) (flag_default (codes "key") (came key) past_stats key_then)
+        ∙ ap (over answers) (flag_default (codes "jsonl") (came jsonl) past_key jsonl_then)
+        ∙ ap (over (flag_rule unique ∷ operand_rule ∷ [])) (flag_default (codes "strict") (came strict) past_jsonl strict_then)
+        ∙ cond_same (has_row (codes "operand") last) last ∙ flag_default (codes "unique") (came unique) past_strict unique_then
 
   no_default_fault : (rows : List Row) → defaults_fault rows (flagged name).rules ≡ []
   unfolding clap_on_literals
@@ -236,8 +276,13 @@ module _ (name : Text) where
       let stats_passes : default_fault after_plain (flag_rule stats) ≡ [] = cond_same _ [] in
       let key_passes : default_fault after_stats (flag_rule key) ≡ [] = cond_same _ [] in
       let jsonl_passes : default_fault after_key (flag_rule jsonl) ≡ [] = cond_same _ [] in
-      let operand_passes : default_fault after_jsonl operand_rule ≡ [] = cond_same _ [] in
-      λ i. or_else (plain_passes i) (or_else (stats_passes i) (or_else (key_passes i) (or_else (jsonl_passes i) (or_else (operand_passes i) []))))
+      let after_strict = with_default after_jsonl (flag_rule strict) in
+      let after_unique = with_default after_strict (flag_rule unique) in
+      let strict_passes : default_fault after_jsonl (flag_rule strict) ≡ [] = cond_same _ [] in
+      let unique_passes : default_fault after_strict (flag_rule unique) ≡ [] = cond_same _ [] in
+      let operand_passes : default_fault after_unique operand_rule ≡ [] = cond_same _ [] in
+      λ i. or_else (plain_passes i) (or_else (stats_passes i) (or_else (key_passes i) (or_else (jsonl_passes i) (or_else (strict_passes i)
+      (or_else (unique_passes i) (or_else (operand_passes i) []))))))
 
   ends : (came : Flag → Bool) (o : Option Text) (rows : List Row) (position : ℕ) → Tells came o rows
       → found_from said (flagged name) (at rows None position) [] ≡ asked_behind came o []
@@ -288,6 +333,8 @@ flag_tells f came o rows none h = record {
     no_operand stats = refl
     no_operand key = refl
     no_operand jsonl = refl
+    no_operand strict = refl
+    no_operand unique = refl
 
 operand_tells : (came : Flag → Bool) (word : Text) (rows : List Row) → Tells came None rows → Tells came (Some word) (rows ++ operand_row word ∷ [])
 operand_tells came word rows h = record {
@@ -300,6 +347,8 @@ operand_tells came word rows h = record {
     no_flag stats = refl
     no_flag key = refl
     no_flag jsonl = refl
+    no_flag strict = refl
+    no_flag unique = refl
 
 -- no flag comes that came before, and none comes twice
 abbrev ComeOnce : (Flag → Bool) → List Text → Type 0
@@ -322,6 +371,8 @@ came_not plain true words h = absurd (true≢false h)
 came_not stats true words h = absurd (true≢false h)
 came_not key true words h = absurd (true≢false h)
 came_not jsonl true words h = absurd (true≢false h)
+came_not strict true words h = absurd (true≢false h)
+came_not unique true words h = absurd (true≢false h)
 
 -- an operand among words is no flag
 module _ (word : Text) (is : IsOperand word) where
@@ -371,7 +422,8 @@ module _ (name : Text) where
   none_came f = false
 
   pub flags_found_are : (us : List Use) → AreOnce (words_of us)
-      → found_in said (flagged name) (words_of us) ≡ option_map (λ o. (flags_in (words_of us), form_in (words_of us), o)) (only (operands (words_of us)))
+      → found_in said (flagged name) (words_of us) ≡ option_map (λ o. (flags_in (words_of us), form_in (words_of us), checks_in (words_of us), o))
+      (only (operands (words_of us)))
   flags_found_are us once =
       flags_go us none_came None [] (record { flags = none_found; operand = refl }) once
     where

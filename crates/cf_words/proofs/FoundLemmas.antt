@@ -1,5 +1,5 @@
 -- What is read of the matches that clap gives.
-use Rattle.std.proofs.Common.{◌≡◌, ◌≢◌, ◌∙◌, ◌||◌, cond, true, false, refl, sym, ap, ap₂, subst, true≢false, inl, inr, List, [], ◌∷◌, Option, Some, None, is_some, Ok, Err, option_map, option_and_then, codes, bytes_eq}
+use Rattle.std.proofs.Common.{◌≡◌, ◌≢◌, ◌∙◌, ◌||◌, cond, Bool, true, false, refl, sym, ap, ap₂, subst, true≢false, inl, inr, List, [], ◌∷◌, Option, Some, None, is_some, Ok, Err, option_map, option_and_then, unwrap_or, codes, bytes_eq}
 use Rattle.std.specs.Option.{option_map_or}
 use Rattle.std.specs.Borrow.{Bor}
 use Rattle.std.specs.Prelude.{Result}
@@ -9,11 +9,12 @@ use Rattle.clap.specs.declared.error.Error.{Error}
 use Rattle.clap.specs.declared.error.kind.ErrorKind.{ErrorKind}
 use Rattle.clap.specs.declared.error.kind.ErrorKind.TheVariants.{OutOfMemory}
 use Rattle.clap.specs.declared.parser.matches.ArgMatches.{ArgMatches}
-use Rattle.clap.specs.Walk.{first_of}
+use Rattle.clap.specs.Walk.{Row, first_of}
+use Rattle.cf_print.specs.declared.language.Language.{Language}
 use Rattle.cf_words.specs.Commands.{Command, plain_command}
 use Rattle.cf_words.proofs.GrammarLaws.{clap_agrees, is_exact, is_simple_grammar}
-use Rattle.cf_words.specs.Grammar.{MatchesAnswer, clap_command, command_found, flags_found, form_found, found_unless, grammar, is_set, verify_found}
-use Rattle.cf_words.specs.Words.{WordsAnswer, about, command_for, command_in, command_of, command_parsed, may_be_parsed, may_be_read, verify_for}
+use Rattle.cf_words.specs.Grammar.{MatchesAnswer, checks_found, clap_command, command_found, emit_found, emit_in, flags_found, form_found, found_unless, grammar, is_set, name_found, plain_found, verify_found}
+use Rattle.cf_words.specs.Words.{WordsAnswer, about, command_for, command_in, command_of, command_parsed, LanguageAnswer, emit_named, emit_on, language_of, may_be_parsed, may_be_read, usual_name, verify_for}
 use Rattle.cf_words.specs.declared.command.Command as declared
 use Rattle.cf_words.specs.declared.fault.WordsFault.{WordsFault}
 use Rattle.cf_words.specs.declared.fault.WordsFault.TheVariants.{Usage, NoMemory}
@@ -24,11 +25,12 @@ set_is m id o e = ap (λ t. option_map_or (λ x. bytes_eq x (codes "true")) t fa
 
 pub operand_is : (m : ArgMatches) (name : Text) (o : Option (Bor Text)) → option_map (λ s. s.now) o ≡ first_value (found_of m) (codes "operand")
     → bytes_eq name (codes "verify") ≡ false
-    → option_and_then (command_for name (flags_found (rows_of (found_of m))) (form_found (rows_of (found_of m)))) (option_map (λ s. s.now) o)
-    ≡ command_found (Some (name, rows_of (found_of m)))
+    → option_and_then (command_for name (flags_found (rows_of (found_of m))) (form_found (rows_of (found_of m))) (checks_found (rows_of (found_of m))))
+    (option_map (λ s. s.now) o)
+    ≡ plain_found name (rows_of (found_of m))
 operand_is m name o e other =
     let rows = rows_of (found_of m) in
-    ap₂ (λ b text. cond b (verify_found rows) (option_and_then (command_for name (flags_found rows) (form_found rows)) text)) (sym other)
+    ap₂ (λ b text. cond b (verify_found rows) (option_and_then (command_for name (flags_found rows) (form_found rows) (checks_found rows)) text)) (sym other)
     (e ∙ first_value-rows (found_of m) (codes "operand"))
 
 -- the two operands of `verify`, as they are read
@@ -44,6 +46,53 @@ pub files_are : (m : ArgMatches) (file steps : Option (Bor Text)) → option_map
 files_are m file steps f s =
     ap₂ (λ x y. option_and_then (λ v. option_and_then (λ w. verify_for (v ∷ w ∷ [])) y) x) (f ∙ first_value-rows (found_of m) (codes "file"))
     (s ∙ first_value-rows (found_of m) (codes "steps"))
+
+-- what was found for `emit`, one after the other
+pub name_is : (m : ArgMatches) (o : Option (Bor Text)) → option_map (λ s. s.now) o ≡ first_value (found_of m) (codes "name")
+    → unwrap_or (option_map (λ s. s.now) o) usual_name ≡ name_found (rows_of (found_of m))
+name_is m o e = ap (λ t. unwrap_or t usual_name) (e ∙ first_value-rows (found_of m) (codes "name"))
+
+pub language_is : (m : ArgMatches) (o : Option (Bor Text)) → option_map (λ s. s.now) o ≡ first_value (found_of m) (codes "language")
+    → option_and_then (λ word. emit_in word (rows_of (found_of m))) (option_map (λ s. s.now) o) ≡ emit_found (rows_of (found_of m))
+language_is m o e = ap (option_and_then (λ word. emit_in word (rows_of (found_of m)))) (e ∙ first_value-rows (found_of m) (codes "language"))
+
+pub file_is : (m : ArgMatches) (word : Text) (o : Option (Bor Text)) → option_map (λ s. s.now) o ≡ first_value (found_of m) (codes "file")
+    → option_and_then (emit_on word (is_set (codes "main") (rows_of (found_of m))) (name_found (rows_of (found_of m)))) (option_map (λ s. s.now) o)
+    ≡ emit_in word (rows_of (found_of m))
+file_is m word o e =
+    let rows = rows_of (found_of m) in
+    ap (option_and_then (emit_on word (is_set (codes "main") rows) (name_found rows))) (e ∙ first_value-rows (found_of m) (codes "file"))
+
+-- a command that may be there, as an answer
+pub answer_some : (found : Option declared.Command) (asked : Option Command) (command : declared.Command) → option_map plain_command found ≡ asked →
+    found ≡ Some command → WordsAnswer asked (Ok command)
+answer_some found asked command e is = sym e ∙ ap (option_map plain_command) is
+
+pub answer_none : (found : Option declared.Command) (asked : Option Command) → option_map plain_command found ≡ asked → found ≡ None →
+    WordsAnswer asked (Err Usage)
+answer_none found asked e is = sym e ∙ ap (option_map plain_command) is
+
+-- a subcommand is `emit` or another
+pub emit_behind : (name : Text) (rows : List Row) (r : Result declared.Command WordsFault) → bytes_eq name (codes "emit") ≡ true →
+    WordsAnswer (emit_found rows) r → WordsAnswer (command_found (Some (name, rows))) r
+emit_behind name rows r is h = subst (λ b. WordsAnswer (cond b (emit_found rows) (plain_found name rows)) r) (sym is) h
+
+pub plain_behind : (name : Text) (rows : List Row) (r : Result declared.Command WordsFault) → bytes_eq name (codes "emit") ≡ false →
+    WordsAnswer (plain_found name rows) r → WordsAnswer (command_found (Some (name, rows))) r
+plain_behind name rows r other h = subst (λ b. WordsAnswer (cond b (emit_found rows) (plain_found name rows)) r) (sym other) h
+
+-- a language that a word is, and a word that is none
+module _ (word name file : Text) (has_main : Bool) where
+  abbrev in_language : Option Language → Option Command
+  in_language o = option_and_then (λ l. emit_named (record { language = l; has_main = has_main; name = name }) file) o
+
+  pub language_there : (l : Language) (r : Result declared.Command WordsFault) → language_of word ≡ Some l →
+      WordsAnswer (emit_named (record { language = l; has_main = has_main; name = name }) file) r → WordsAnswer (emit_on word has_main name file) r
+  language_there l r is h = subst (λ o. WordsAnswer (in_language o) r) (sym is) h
+
+  pub no_language : (f : WordsFault) → LanguageAnswer (language_of word) (Err f) → WordsAnswer (emit_on word has_main name file) (Err f)
+  no_language Usage h = ap in_language h
+  no_language NoMemory h = tt
 
 no_answer : {X : Type 0} (kind : ErrorKind) (kinds : Kinds) (answer : Option X) → IsAmong kind kinds → found_unless kinds answer ≡ None
 no_answer kind [] answer among = absurd among
@@ -70,6 +119,10 @@ module _ (app : App) (told : app ≡ grammar) (words : List Text) where
 -- the command of words that may be parsed is the one that the parse leads to
 pub parsed : (words : List Text) (asked : Option Command) → may_be_parsed words ≡ true → clap_command words ≡ asked → command_parsed words ≡ asked
 parsed words asked tested is = ap (λ b. cond b (command_in words) None) tested ∙ sym (clap_agrees words tested) ∙ is
+
+pub parsed_as : (words : List Text) (found : Option Command) (r : Result declared.Command WordsFault) → may_be_parsed words ≡ true →
+    found ≡ clap_command words → WordsAnswer found r → WordsAnswer (command_parsed words) r
+parsed_as words found r tested is h = subst (λ o. WordsAnswer o r) (is ∙ sym (parsed words (clap_command words) tested refl)) h
 
 pub not_parsed : (words : List Text) (f : WordsFault) → may_be_parsed words ≡ true → MatchesAnswer (clap_command words) (Err f)
     → WordsAnswer (command_parsed words) (Err f)

@@ -11,17 +11,18 @@ use Rattle.clap.specs.declared.builder.value_parser.Reading.TheVariants.{AsWritt
 use Rattle.clap.specs.declared.parser.matches.ValueSource.TheVariants.{CommandLine}
 use Rattle.cf_words.proofs.RowLemmas.{row_of_values}
 use Rattle.cf_words.proofs.Uses.{IsOperand}
-use Rattle.cf_words.specs.Grammar.{flags_found, form_found, found_unless}
+use Rattle.cf_words.specs.Grammar.{checks_found, flags_found, form_found, found_unless}
+use Rattle.cf_words.specs.declared.command.CheckFlags.{CheckFlags}
 use Rattle.cf_words.specs.declared.command.Flags.{Flags}
 use Rattle.cf_words.specs.declared.command.ReplyForm.{ReplyForm}
 
 -- what a command on one operand is asked
 abbrev pub Asked : Type 0
-Asked = Flags × ReplyForm × Text
+Asked = Flags × ReplyForm × CheckFlags × Text
 
 -- what is found in rows
 abbrev pub said : List Row → Option Asked
-said rows = option_map (λ o. (flags_found rows, form_found rows, o)) (first_of (codes "operand") rows)
+said rows = option_map (λ o. (flags_found rows, form_found rows, checks_found rows, o)) (first_of (codes "operand") rows)
 
 -- what a level comes to from a walk on
 abbrev pub end_of : Shape → Walk → List Text → Held

@@ -4,6 +4,8 @@ pub mod Uses
 pub mod LevelLaws
 pub mod FlaggedLaws
 pub mod PairedLaws
+pub mod EmitUses
+pub mod EmitLaws
 pub mod GrammarLaws
 pub mod FoundLemmas
 pub mod SizeLemmas

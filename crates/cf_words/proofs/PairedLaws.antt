@@ -9,7 +9,7 @@ use Rattle.clap.specs.declared.error.kind.ErrorKind.TheVariants.{UnknownArgument
 use Rattle.cf_words.specs.Commands.{Command, verify}
 use Rattle.cf_words.specs.Grammar.{paired_subcommand, program, verify_found}
 use Rattle.cf_words.specs.Words.{is_name, verify_for}
-use Rattle.cf_words.proofs.Uses.{Flag, Use, flag_word, words_of, plain, stats, key, jsonl, flag, operand}
+use Rattle.cf_words.proofs.Uses.{Flag, Use, flag_word, words_of, plain, stats, key, jsonl, strict, unique, flag, operand}
 use Rattle.cf_words.proofs.LevelLaws.{found_from, found_in, passes, fails, between, held_with, row_with, operand_turn, operand_walk}
 
 abbrev pub paired : Text → Shape
@@ -46,6 +46,8 @@ module _ (name : Text) where
   flag_unknown stats h position = refl
   flag_unknown key h position = refl
   flag_unknown jsonl h position = refl
+  flag_unknown strict h position = refl
+  flag_unknown unique h position = refl
 
   behind_two : (us : List Use) (file steps : Text)
       → found_from verify_found (paired name) (two_read file steps) (words_of us) ≡ verify_for (file ∷ steps ∷ words_of us)

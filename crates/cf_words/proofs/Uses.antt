@@ -13,12 +13,16 @@ pub data Flag : Type 0 where
   stats : Flag
   key : Flag
   jsonl : Flag
+  strict : Flag
+  unique : Flag
 
 abbrev pub flag_id : Flag → Text
 flag_id plain = codes "plain"
 flag_id stats = codes "stats"
 flag_id key = codes "key"
 flag_id jsonl = codes "jsonl"
+flag_id strict = codes "strict"
+flag_id unique = codes "unique"
 
 abbrev pub flag_word : Flag → Text
 flag_word f = codes "--" ++ flag_id f
@@ -47,33 +51,42 @@ flag_is plain = refl
 flag_is stats = refl
 flag_is key = refl
 flag_is jsonl = refl
+flag_is strict = refl
+flag_is unique = refl
 
 pub flag_not : (word : Text) → ((f : Flag) → bytes_eq word (flag_word f) ≡ false) → is_flag word ≡ false
-flag_not word none = λ i. (none plain i || none stats i || none key i || none jsonl i)
+flag_not word none = λ i. (none plain i || none stats i || none key i || none jsonl i || none strict i || none unique i)
 
 -- a word is one of the flags or none
-by_flag : (word : Text) → bytes_eq word (codes "--plain") ≡ false → bytes_eq word (codes "--stats") ≡ false → bytes_eq word (codes "--key") ≡ false
-    → bytes_eq word (codes "--jsonl") ≡ false → (f : Flag) → bytes_eq word (flag_word f) ≡ false
-by_flag word p s k j plain = p
-by_flag word p s k j stats = s
-by_flag word p s k j key = k
-by_flag word p s k j jsonl = j
+pub by_flag : (word : Text) → bytes_eq word (codes "--plain") ≡ false → bytes_eq word (codes "--stats") ≡ false → bytes_eq word (codes "--key") ≡ false
+    → bytes_eq word (codes "--jsonl") ≡ false → bytes_eq word (codes "--strict") ≡ false → bytes_eq word (codes "--unique") ≡ false
+    → (f : Flag) → bytes_eq word (flag_word f) ≡ false
+by_flag word p s k j t u plain = p
+by_flag word p s k j t u stats = s
+by_flag word p s k j t u key = k
+by_flag word p s k j t u jsonl = j
+by_flag word p s k j t u strict = t
+by_flag word p s k j t u unique = u
 
 flag_named : (word : Text) → ((f : Flag) × (flag_word f ≡ word)) ⊎ ((f : Flag) → bytes_eq word (flag_word f) ≡ false)
 flag_named word =
     go (bytes_eq word (codes "--plain")) refl (bytes_eq word (codes "--stats")) refl (bytes_eq word (codes "--key")) refl (bytes_eq word (codes "--jsonl")) refl
+    (bytes_eq word (codes "--strict")) refl (bytes_eq word (codes "--unique")) refl
   where
     go : (p : Bool) → bytes_eq word (codes "--plain") ≡ p → (s : Bool) → bytes_eq word (codes "--stats") ≡ s
         → (k : Bool) → bytes_eq word (codes "--key") ≡ k → (j : Bool) → bytes_eq word (codes "--jsonl") ≡ j
+        → (t : Bool) → bytes_eq word (codes "--strict") ≡ t → (u : Bool) → bytes_eq word (codes "--unique") ≡ u
         → ((f : Flag) × (flag_word f ≡ word)) ⊎ ((f : Flag) → bytes_eq word (flag_word f) ≡ false)
-    go true is s e k f j g = inl (plain, sym ((bytes_eq-Decides word (codes "--plain")).0 is))
-    go false d true is k f j g = inl (stats, sym ((bytes_eq-Decides word (codes "--stats")).0 is))
-    go false d false e true is j g = inl (key, sym ((bytes_eq-Decides word (codes "--key")).0 is))
-    go false d false e false f true is = inl (jsonl, sym ((bytes_eq-Decides word (codes "--jsonl")).0 is))
-    go false d false e false f false g = inr (by_flag word d e f g)
+    go true is s e k f j g t h u i = inl (plain, sym ((bytes_eq-Decides word (codes "--plain")).0 is))
+    go false d true is k f j g t h u i = inl (stats, sym ((bytes_eq-Decides word (codes "--stats")).0 is))
+    go false d false e true is j g t h u i = inl (key, sym ((bytes_eq-Decides word (codes "--key")).0 is))
+    go false d false e false f true is t h u i = inl (jsonl, sym ((bytes_eq-Decides word (codes "--jsonl")).0 is))
+    go false d false e false f false g true is u i = inl (strict, sym ((bytes_eq-Decides word (codes "--strict")).0 is))
+    go false d false e false f false g false h true is = inl (unique, sym ((bytes_eq-Decides word (codes "--unique")).0 is))
+    go false d false e false f false g false h false i = inr (by_flag word d e f g h i)
 
 -- a name is an operand, and so is the dash
-name_is : (x : ℕ) (xs : List ℕ) → (x == 45) ≡ false → ((f : Flag) → bytes_eq (x ∷ xs) (flag_word f) ≡ false) → IsOperand (x ∷ xs)
+pub name_is : (x : ℕ) (xs : List ℕ) → (x == 45) ≡ false → ((f : Flag) → bytes_eq (x ∷ xs) (flag_word f) ≡ false) → IsOperand (x ∷ xs)
 name_is x xs e none = record {
   no_dashes = rw e refl;
   no_long = rw e refl;
@@ -81,12 +94,12 @@ name_is x xs e none = record {
   no_flag = none;
 }
 
-dash_is : IsOperand (codes "-")
+pub dash_is : IsOperand (codes "-")
 dash_is = record {
   no_dashes = refl;
   no_long = refl;
   no_short = refl;
-  no_flag = by_flag (codes "-") refl refl refl refl;
+  no_flag = by_flag (codes "-") refl refl refl refl refl refl;
 }
 
 -- words that may be read are uses
@@ -116,29 +129,37 @@ uses_of (word ∷ words) h =
 abbrev pub AreOnce : List Text → Type 0
 AreOnce words = (f : Flag) → stands_twice (flag_word f) words ≡ false
 
-abbrev of_four : (p s k j : Bool) → Flag → Bool
-of_four p s k j plain = p
-of_four p s k j stats = s
-of_four p s k j key = k
-of_four p s k j jsonl = j
+abbrev of_six : (p s k j t u : Bool) → Flag → Bool
+of_six p s k j t u plain = p
+of_six p s k j t u stats = s
+of_six p s k j t u key = k
+of_six p s k j t u jsonl = j
+of_six p s k j t u strict = t
+of_six p s k j t u unique = u
 
-none_of : (p s k j : Bool) → not (p || s || k || j) ≡ true → (f : Flag) → of_four p s k j f ≡ false
-none_of true s k j h f = absurd (true≢false (sym h))
-none_of false true k j h f = absurd (true≢false (sym h))
-none_of false false true j h f = absurd (true≢false (sym h))
-none_of false false false true h f = absurd (true≢false (sym h))
-none_of false false false false h plain = refl
-none_of false false false false h stats = refl
-none_of false false false false h key = refl
-none_of false false false false h jsonl = refl
+none_of : (p s k j t u : Bool) → not (p || s || k || j || t || u) ≡ true → (f : Flag) → of_six p s k j t u f ≡ false
+none_of true s k j t u h f = absurd (true≢false (sym h))
+none_of false true k j t u h f = absurd (true≢false (sym h))
+none_of false false true j t u h f = absurd (true≢false (sym h))
+none_of false false false true t u h f = absurd (true≢false (sym h))
+none_of false false false false true u h f = absurd (true≢false (sym h))
+none_of false false false false false true h f = absurd (true≢false (sym h))
+none_of false false false false false false h plain = refl
+none_of false false false false false false h stats = refl
+none_of false false false false false false h key = refl
+none_of false false false false false false h jsonl = refl
+none_of false false false false false false h strict = refl
+none_of false false false false false false h unique = refl
 
 module _ (words : List Text) (h : are_once words ≡ true) where
-  each_once : (f : Flag) → of_four (stands_twice (codes "--plain") words) (stands_twice (codes "--stats") words) (stands_twice (codes "--key") words)
-      (stands_twice (codes "--jsonl") words) f ≡ false
-  each_once = none_of _ _ _ _ h
+  each_once : (f : Flag) → of_six (stands_twice (codes "--plain") words) (stands_twice (codes "--stats") words) (stands_twice (codes "--key") words)
+      (stands_twice (codes "--jsonl") words) (stands_twice (codes "--strict") words) (stands_twice (codes "--unique") words) f ≡ false
+  each_once = none_of _ _ _ _ _ _ h
 
   pub once_of : AreOnce words
   once_of plain = each_once plain
   once_of stats = each_once stats
   once_of key = each_once key
   once_of jsonl = each_once jsonl
+  once_of strict = each_once strict
+  once_of unique = each_once unique

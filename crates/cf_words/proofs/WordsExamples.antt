@@ -1,9 +1,11 @@
 -- Worked examples of the command that words are.
 use Rattle.std.proofs.Common.{◌≡◌, ℕ, List, refl, true, false, [], ◌∷◌, Some, None, codes}
 use Rattle.std.specs.Fmt.{digits}
-use Rattle.cf_words.specs.Commands.{compile, run, pre, check, exec, prove, verify, gen, help, version}
+use Rattle.cf_print.specs.declared.language.Language.TheVariants.{C, Python, JavaScript}
+use Rattle.cf_words.specs.Commands.{compile, run, pre, check, exec, prove, emit, verify, gen, help, version}
 use Rattle.cf_words.specs.Words.{command_of, is_flag, is_name, is_operand, may_be_read, most_size}
 use Rattle.cf_words.specs.declared.command.ReplyForm.{ReplyForm}
+use Rattle.cf_words.specs.declared.command.Strictness.TheVariants as strictness
 
 -- nothing is asked of the replies
 abbrev plain_form : ReplyForm
@@ -76,7 +78,7 @@ two_operands = refl
 pre_file : command_of (codes "pre" ∷ codes "a" ∷ []) ≡ Some (pre (codes "a"))
 pre_file = refl
 
-check_file : command_of (codes "check" ∷ codes "a" ∷ []) ≡ Some (check (codes "a"))
+check_file : command_of (codes "check" ∷ codes "a" ∷ []) ≡ Some (check strictness.Told (codes "a"))
 check_file = refl
 
 prove_file : command_of (codes "prove" ∷ codes "a" ∷ []) ≡ Some (prove (codes "a"))
@@ -228,6 +230,56 @@ key_of_verify = refl
 jsonl_for_steps : command_of (codes "verify" ∷ codes "a" ∷ codes "--jsonl" ∷ []) ≡ None
 jsonl_for_steps = refl
 
+-- ---- the flags of `check`
+strict_check : command_of (codes "check" ∷ codes "--strict" ∷ codes "a" ∷ []) ≡ Some (check strictness.Existing (codes "a"))
+strict_check = refl
+
+strict_behind_the_file : command_of (codes "check" ∷ codes "a" ∷ codes "--strict" ∷ []) ≡ Some (check strictness.Existing (codes "a"))
+strict_behind_the_file = refl
+
+strict_and_unique : command_of (codes "check" ∷ codes "--strict" ∷ codes "--unique" ∷ codes "a" ∷ []) ≡ Some (check strictness.Unique (codes "a"))
+strict_and_unique = refl
+
+unique_before_strict : command_of (codes "check" ∷ codes "--unique" ∷ codes "-" ∷ codes "--strict" ∷ []) ≡ Some (check strictness.Unique (codes "-"))
+unique_before_strict = refl
+
+unique_alone : (command_of (codes "check" ∷ codes "--unique" ∷ codes "a" ∷ []) ≡ None) × (command_of (codes "check" ∷ codes "a" ∷ codes "--unique" ∷ []) ≡ None)
+unique_alone = (refl, refl)
+
+strict_twice : (command_of (codes "check" ∷ codes "--strict" ∷ codes "a" ∷ codes "--strict" ∷ []) ≡ None)
+    × (may_be_read (codes "check" ∷ codes "--strict" ∷ codes "a" ∷ codes "--strict" ∷ []) ≡ false)
+strict_twice = (refl, refl)
+
+unique_twice : (command_of (codes "check" ∷ codes "--strict" ∷ codes "--unique" ∷ codes "--unique" ∷ codes "a" ∷ []) ≡ None)
+    × (may_be_read (codes "check" ∷ codes "--strict" ∷ codes "--unique" ∷ codes "--unique" ∷ codes "a" ∷ []) ≡ false)
+unique_twice = (refl, refl)
+
+strict_and_plain : command_of (codes "check" ∷ codes "--strict" ∷ codes "--plain" ∷ codes "a" ∷ []) ≡ None
+strict_and_plain = refl
+
+strict_and_jsonl : command_of (codes "check" ∷ codes "--strict" ∷ codes "a" ∷ codes "--jsonl" ∷ []) ≡ None
+strict_and_jsonl = refl
+
+strict_with_value : command_of (codes "check" ∷ codes "--strict=a" ∷ codes "a" ∷ []) ≡ None
+strict_with_value = refl
+
+strict_alone : command_of (codes "check" ∷ codes "--strict" ∷ []) ≡ None
+strict_alone = refl
+
+strict_refused : IsRefusedWith (codes "compile") (codes "--strict") × IsRefusedWith (codes "run") (codes "--strict")
+    × IsRefusedWith (codes "pre") (codes "--strict") × IsRefusedWith (codes "exec") (codes "--strict") × IsRefusedWith (codes "prove") (codes "--strict")
+    × IsRefusedWith (codes "gen") (codes "--strict")
+strict_refused = ((refl, refl), (refl, refl), (refl, refl), (refl, refl), (refl, refl), (refl, refl))
+
+unique_refused : IsRefusedWith (codes "compile") (codes "--unique") × IsRefusedWith (codes "run") (codes "--unique")
+    × IsRefusedWith (codes "pre") (codes "--unique") × IsRefusedWith (codes "exec") (codes "--unique") × IsRefusedWith (codes "prove") (codes "--unique")
+    × IsRefusedWith (codes "gen") (codes "--unique")
+unique_refused = ((refl, refl), (refl, refl), (refl, refl), (refl, refl), (refl, refl), (refl, refl))
+
+strict_of_verify : (command_of (codes "verify" ∷ codes "a" ∷ codes "b" ∷ codes "--strict" ∷ []) ≡ None)
+    × (command_of (codes "verify" ∷ codes "--strict" ∷ codes "a" ∷ []) ≡ None)
+strict_of_verify = (refl, refl)
+
 -- ---- standard input as the file
 dash_to_compile : command_of (codes "compile" ∷ codes "-" ∷ []) ≡ Some (compile (record { plain = false; stats = false }) (codes "-"))
 dash_to_compile = refl
@@ -239,7 +291,7 @@ dash_among_flags = refl
 dash_to_pre : command_of (codes "pre" ∷ codes "-" ∷ []) ≡ Some (pre (codes "-"))
 dash_to_pre = refl
 
-dash_to_check : command_of (codes "check" ∷ codes "-" ∷ []) ≡ Some (check (codes "-"))
+dash_to_check : command_of (codes "check" ∷ codes "-" ∷ []) ≡ Some (check strictness.Told (codes "-"))
 dash_to_check = refl
 
 dash_to_prove : command_of (codes "prove" ∷ codes "-" ∷ []) ≡ Some (prove (codes "-"))
@@ -307,3 +359,106 @@ help_twice = refl
 
 short_version : command_of (codes "-V" ∷ []) ≡ None
 short_version = refl
+
+-- ---- emit
+emit_c : command_of (codes "emit" ∷ codes "c" ∷ codes "a" ∷ []) ≡ Some (emit (record { language = C; has_main = false; name = codes "answer" }) (codes "a"))
+emit_c = refl
+
+emit_python : command_of (codes "emit" ∷ codes "python" ∷ codes "a" ∷ codes "--main" ∷ [])
+    ≡ Some (emit (record { language = Python; has_main = true; name = codes "answer" }) (codes "a"))
+emit_python = refl
+
+emit_js : command_of (codes "emit" ∷ codes "--main" ∷ codes "js" ∷ codes "--name" ∷ codes "total_2" ∷ codes "a" ∷ [])
+    ≡ Some (emit (record { language = JavaScript; has_main = true; name = codes "total_2" }) (codes "a"))
+emit_js = refl
+
+emit_name_first : command_of (codes "emit" ∷ codes "--name" ∷ codes "seconds" ∷ codes "c" ∷ codes "a" ∷ [])
+    ≡ Some (emit (record { language = C; has_main = false; name = codes "seconds" }) (codes "a"))
+emit_name_first = refl
+
+emit_a_file_named_emit : command_of (codes "emit" ∷ codes "c" ∷ codes "emit" ∷ [])
+    ≡ Some (emit (record { language = C; has_main = false; name = codes "answer" }) (codes "emit"))
+emit_a_file_named_emit = refl
+
+emit_of_the_input : command_of (codes "emit" ∷ codes "js" ∷ codes "-" ∷ [])
+    ≡ Some (emit (record { language = JavaScript; has_main = false; name = codes "answer" }) (codes "-"))
+emit_of_the_input = refl
+
+emit_exchanged : command_of (codes "emit" ∷ codes "a" ∷ codes "c" ∷ []) ≡ None
+emit_exchanged = refl
+
+emit_in_another_language : command_of (codes "emit" ∷ codes "java" ∷ codes "a" ∷ []) ≡ None
+emit_in_another_language = refl
+
+-- there is a word for it, and no printer yet
+emit_not_built : command_of (codes "emit" ∷ codes "rust" ∷ codes "a" ∷ []) ≡ None
+emit_not_built = refl
+
+emit_without_file : command_of (codes "emit" ∷ codes "c" ∷ []) ≡ None
+emit_without_file = refl
+
+emit_alone : command_of (codes "emit" ∷ []) ≡ None
+emit_alone = refl
+
+emit_two_files : command_of (codes "emit" ∷ codes "c" ∷ codes "a" ∷ codes "b" ∷ []) ≡ None
+emit_two_files = refl
+
+emit_main_twice : command_of (codes "emit" ∷ codes "--main" ∷ codes "c" ∷ codes "a" ∷ codes "--main" ∷ []) ≡ None
+emit_main_twice = refl
+
+emit_name_twice : command_of (codes "emit" ∷ codes "c" ∷ codes "a" ∷ codes "--name" ∷ codes "b" ∷ codes "--name" ∷ codes "b" ∷ []) ≡ None
+emit_name_twice = refl
+
+emit_no_name : command_of (codes "emit" ∷ codes "c" ∷ codes "a" ∷ codes "--name" ∷ []) ≡ None
+emit_no_name = refl
+
+emit_flag_for_a_name : command_of (codes "emit" ∷ codes "c" ∷ codes "a" ∷ codes "--name" ∷ codes "--main" ∷ []) ≡ None
+emit_flag_for_a_name = refl
+
+emit_empty_name : command_of (codes "emit" ∷ codes "c" ∷ codes "a" ∷ codes "--name" ∷ [] ∷ []) ≡ None
+emit_empty_name = refl
+
+emit_dash_for_a_name : command_of (codes "emit" ∷ codes "c" ∷ codes "a" ∷ codes "--name" ∷ codes "-" ∷ []) ≡ None
+emit_dash_for_a_name = refl
+
+emit_digit_first : command_of (codes "emit" ∷ codes "c" ∷ codes "a" ∷ codes "--name" ∷ codes "2b" ∷ []) ≡ None
+emit_digit_first = refl
+
+emit_dot_in_a_name : command_of (codes "emit" ∷ codes "c" ∷ codes "a" ∷ codes "--name" ∷ codes "a.b" ∷ []) ≡ None
+emit_dot_in_a_name = refl
+
+emit_reserved_name : command_of (codes "emit" ∷ codes "c" ∷ codes "a" ∷ codes "--name" ∷ codes "while" ∷ []) ≡ None
+emit_reserved_name = refl
+
+-- a word that a printed program has for itself, and the name of a part
+emit_name_of_a_helper : command_of (codes "emit" ∷ codes "python" ∷ codes "a" ∷ codes "--name" ∷ codes "fit" ∷ []) ≡ None
+emit_name_of_a_helper = refl
+
+emit_name_of_a_part : command_of (codes "emit" ∷ codes "js" ∷ codes "a" ∷ codes "--name" ∷ codes "choose_1" ∷ []) ≡ None
+emit_name_of_a_part = refl
+
+emit_a_name_of_another_language : command_of (codes "emit" ∷ codes "js" ∷ codes "a" ∷ codes "--name" ∷ codes "def" ∷ [])
+    ≡ Some (emit (record { language = JavaScript; has_main = false; name = codes "def" }) (codes "a"))
+emit_a_name_of_another_language = refl
+
+emit_plain : command_of (codes "emit" ∷ codes "c" ∷ codes "a" ∷ codes "--plain" ∷ []) ≡ None
+emit_plain = refl
+
+emit_jsonl : command_of (codes "emit" ∷ codes "--jsonl" ∷ codes "c" ∷ codes "a" ∷ []) ≡ None
+emit_jsonl = refl
+
+emit_name_attached : command_of (codes "emit" ∷ codes "c" ∷ codes "a" ∷ codes "--name=b" ∷ []) ≡ None
+emit_name_attached = refl
+
+main_of_compile : command_of (codes "compile" ∷ codes "a" ∷ codes "--main" ∷ []) ≡ None
+main_of_compile = refl
+
+name_of_run : command_of (codes "run" ∷ codes "--name" ∷ codes "a" ∷ []) ≡ None
+name_of_run = refl
+
+-- its words may be read, whatever they ask
+emit_may_be_read : may_be_read (codes "emit" ∷ codes "rust" ∷ codes "--main" ∷ codes "a" ∷ []) ≡ true
+emit_may_be_read = refl
+
+emit_may_not_be_read : may_be_read (codes "emit" ∷ codes "c" ∷ codes "--plain" ∷ codes "a" ∷ []) ≡ false
+emit_may_not_be_read = refl

@@ -1,33 +1,47 @@
 -- The commands.
-use Rattle.std.specs.Prelude.{◌≤◌, ⊤, ℕ, List}
+use Rattle.std.specs.Prelude.{◌≤◌, ⊤, ℕ, Bool, List}
+use Rattle.cf_print.specs.declared.language.Language.{Language}
 use Rattle.cf_words.specs.declared.command.Command as declared
 use Rattle.cf_words.specs.declared.command.Command.TheVariants.{OnFile, Verify, Gen, Help, Version}
 use Rattle.cf_words.specs.declared.command.CommandKind.{CommandKind}
-use Rattle.cf_words.specs.declared.command.CommandKind.TheVariants.{Compile, Run, Pre, Check, Exec, Prove}
+use Rattle.cf_words.specs.declared.command.CommandKind.TheVariants.{Compile, Run, Pre, Check, Exec, Prove, Emit}
+use Rattle.cf_words.specs.declared.command.Emitting as declared_emitting
 use Rattle.cf_words.specs.declared.command.FileCommand.{FileCommand}
 use Rattle.cf_words.specs.declared.command.Flags.{Flags}
 use Rattle.cf_words.specs.declared.command.ReplyForm.{ReplyForm}
+use Rattle.cf_words.specs.declared.command.Strictness.{Strictness}
+
+-- in which language a program is written, whether as a filter of lines too, and the name of its function
+pub record Emitting : Type 0 where
+  pub language : Language
+  pub has_main : Bool
+  pub name : List ℕ
 
 pub data Command : Type 0 where
   compile : Flags → List ℕ → Command
   run : Flags → ReplyForm → List ℕ → Command
   pre : List ℕ → Command
-  check : List ℕ → Command
+  check : Strictness → List ℕ → Command
   exec : ReplyForm → List ℕ → Command
   prove : List ℕ → Command
+  emit : Emitting → List ℕ → Command
   verify : List ℕ → List ℕ → Command
   gen : ℕ → Command
   help : Command
   version : Command
+
+abbrev pub plain_emitting : declared_emitting.Emitting → Emitting
+plain_emitting e = record { language = e.language; has_main = e.has_main; name = e.name.now }
 
 -- the command of a kind on a file, with what is asked of the passes and of the replies where the kind has these
 abbrev pub command_on : CommandKind → Flags → ReplyForm → List ℕ → Command
 command_on Compile flags form file = compile flags file
 command_on Run flags form file = run flags form file
 command_on Pre flags form file = pre file
-command_on Check flags form file = check file
+command_on (Check strictness) flags form file = check strictness file
 command_on Exec flags form file = exec form file
 command_on Prove flags form file = prove file
+command_on (Emit e) flags form file = emit (plain_emitting e) file
 
 abbrev pub file_command : FileCommand → Command
 file_command c = command_on c.kind c.flags c.form c.file.now

@@ -1,8 +1,19 @@
 //! What the words of the command line ask for.
+use cf_print::Language;
+
+/// How a program is written in another language.
+#[derive(Clone, Copy, Debug)]
+pub struct Emitting<'a> {
+    pub language: Language,
+    /// Whether the file is a filter of lines too.
+    pub has_main: bool,
+    /// The name of its function.
+    pub name: &'a str,
+}
 
 /// What a command does with its file.
-#[derive(Clone, Copy, Debug, PartialEq, Eq)]
-pub enum CommandKind {
+#[derive(Clone, Copy, Debug)]
+pub enum CommandKind<'a> {
     /// The file holds a source text. The target that it is compiled to is written.
     Compile,
     /// The file holds a source text. The input is answered by the target that it is compiled to.
@@ -10,13 +21,36 @@ pub enum CommandKind {
     /// The file holds a source text. The preconditions of its chooses are written.
     Pre,
     /// The file holds a source text. For each of its chooses is written whether outputs always exist,
-    /// and whether they are the only ones.
-    Check,
+    /// and whether they are the only ones. The status tells of the answers what is asked of them.
+    Check(Strictness),
     /// The file holds a target text. The input is answered by it.
     Exec,
     /// The file holds a source text. The steps of the elimination of each choose, and the choose's own
     /// target, are written.
     Prove,
+    /// The file holds a source text. The target that it is compiled to is written as a program of another
+    /// language.
+    Emit(Emitting<'a>),
+}
+
+/// What `check` asks of its answers, for its status.
+#[derive(Clone, Copy, Debug, PartialEq, Eq)]
+pub enum Strictness {
+    /// Nothing. It is done when they are written.
+    Told,
+    /// Outputs always exist, and the arms of each match cover all numbers.
+    Existing,
+    /// The same, and outputs are the only ones.
+    Unique,
+}
+
+/// The flags of `check`.
+#[derive(Clone, Copy, Debug, PartialEq, Eq)]
+pub(crate) struct CheckFlags {
+    /// The status tells whether outputs always exist.
+    pub(crate) strict: bool,
+    /// It tells also whether they are the only ones.
+    pub(crate) unique: bool,
 }
 
 /// What is asked of the passes.
@@ -41,7 +75,7 @@ pub struct ReplyForm {
 /// file. The name `-` is that of standard input.
 #[derive(Clone, Copy, Debug)]
 pub struct FileCommand<'a> {
-    pub kind: CommandKind,
+    pub kind: CommandKind<'a>,
     pub flags: Flags,
     pub form: ReplyForm,
     pub file: &'a str,

@@ -14,7 +14,8 @@ use std::alloc::Global;
 ///
 /// # Errors
 /// `Usage` exactly where the words are no command, and before memory is asked for where one of them may
-/// not be read; `NoMemory` where memory runs out.
+/// not be read; `NoMemory` where memory runs out, and where `emit` is asked for a language that is not
+/// built yet.
 pub fn parse<'a>(alloc: Global, words: &'a [String]) -> Result<Command<'a>, WordsFault>
     ensures answer { WordsAnswer (command_of (map string_bytes words.entry.now)) result }
     ensures size { IfOk result HasSize }
@@ -36,8 +37,5 @@ fn parse_command<'a>(alloc: Global, words: &'a [String]) -> Result<Command<'a>, 
         return Err(WordsFault::Usage);
     }
     let matches = matches_of(alloc, words)?;
-    match command_found(&matches) {
-        Some(command) => Ok(command),
-        None => Err(WordsFault::Usage),
-    }
+    command_found(alloc, &matches)
 }

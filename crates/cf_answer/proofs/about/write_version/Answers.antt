@@ -5,7 +5,7 @@ use Rattle.cf_answer.proofs.about.write_version.Goals as goal
 
 pub returns-clause-answers : goal.returns-clause-answers
 returns-clause-answers g c =
-    λ given input. written_answers _ _ _ _ version_text _ input _ _ _ refl (λ e. refl) refl refl (sym (append-nil _)) c.write_text.ensures.all
+    λ given input. written_answers _ _ _ _ version_text _ input _ _ _ refl refl (λ e. refl) refl refl (sym (append-nil _)) c.write_text.ensures.all
     c.write_text.ensures.prefix
     c.write_text.ensures.fault c.write_text.ensures.count
 

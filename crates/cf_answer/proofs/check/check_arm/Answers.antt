@@ -1,5 +1,4 @@
 use Rattle.std.proofs.Common.{map}
-use Rattle.std.proofs.lemmas.Result.{on_ok_weaker}
 use Rattle.cf_match.specs.Matches.{match_tree}
 use Rattle.cf_answer.proofs.CheckLemmas.{arm_checked}
 use Rattle.cf_answer.proofs.check.check_arm.Goals as goal
@@ -7,6 +6,6 @@ use Rattle.cf_answer.proofs.check.check_arm.Goals as goal
 pub returns : goal.returns
 returns c =
     let infos = c.args.matches.now.infos.now in
-    on_ok_weaker c.check_uniqueness.result
-    (λ h told. arm_checked (map match_tree infos) told c.args.choose.now _ c.in_ok-levels.levels.items _ c.in_ok-levels.ensures c.requires h)
-    (rw c.deref.ensures.value at c.check_uniqueness.ensures)
+    λ edition told. rw c.nothing_unmet.ensures
+    (arm_checked edition (map match_tree infos) told c.args.choose.now _ c.in_ok-levels.levels.items _ c.in_ok-unique.unique c.in_ok-levels.ensures c.requires
+    (rw c.deref.ensures.value at c.in_ok-unique.ensures))

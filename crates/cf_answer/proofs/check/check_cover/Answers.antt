@@ -4,4 +4,4 @@ pub covers-requires : goal.covers-requires
 covers-requires c = rw c.deref.ensures.value c.requires
 
 pub returns : goal.returns
-returns c = (c.in_ok-answer.answer, rw c.deref.ensures.value at c.in_ok-answer.ensures, c.in_ok-put_cover_line.ensures)
+returns c = (c.in_ok-answer.answer, rw c.deref.ensures.value at c.in_ok-answer.ensures, c.in_ok-put_cover_line.ensures, c.unmet_cover.ensures)

@@ -7,15 +7,20 @@ use Rattle.cf_answer.proofs.check.check_each.Goals as goal
 pub loop-choose-init : goal.loop-choose-init
 loop-choose-init c =
     let empty : c.new-text.result.items ≡ [] = search rules in
-    λ qs s. walk_start (map match_tree c.args.matches.now.infos.now) (map told_choose c.args.told.now) qs c.args.chooses.now _ empty s
+    λ edition qs s conditions.
+    walk_start edition (map match_tree c.args.matches.now.infos.now) (map told_choose c.args.told.now) qs c.args.chooses.now _ _ empty
+    c.nothing_answered-answered.ensures s
 
 pub loop-choose-preserved : goal.loop-choose-preserved
 loop-choose-preserved c =
     let item : c.choose-item.result ≡ get_or c.args.chooses.now c.loop-choose.choose-index c.choose-item.result = search rules in
-    λ qs s. walk_on (map match_tree c.args.matches.now.infos.now) (map told_choose c.args.told.now) qs c.args.chooses.now c.loop-choose.choose-index
-    c.loop-choose.before c.choose-item.result _ _ (omega arith) item (c.loop-choose.invariant qs s) c.in_ok-check_next.ensures
+    λ edition qs s conditions. rw c.in_ok-answered.ensures
+    (walk_on edition (map match_tree c.args.matches.now.infos.now) (map told_choose c.args.told.now) qs c.args.chooses.now c.loop-choose.choose-index
+    c.loop-choose.before c.choose-item.result _ _ c.loop-choose.answered c.in_ok-more.more (omega arith) item
+    (c.loop-choose.invariant edition qs s conditions) conditions (c.in_ok-more.ensures edition))
 
 pub returns : goal.returns
 returns c =
-    λ qs s. walk_end (map match_tree c.args.matches.now.infos.now) (map told_choose c.args.told.now) qs c.args.chooses.now c.loop-choose.choose-index
-    c.loop-choose.before _ (omega arith) (c.loop-choose.invariant qs s)
+    λ edition qs s conditions.
+    walk_end edition (map match_tree c.args.matches.now.infos.now) (map told_choose c.args.told.now) qs c.args.chooses.now c.loop-choose.choose-index
+    c.loop-choose.before _ _ (omega arith) (c.loop-choose.invariant edition qs s conditions)

@@ -1,5 +1,4 @@
-use Rattle.std.proofs.lemmas.Result.{on_ok_weaker}
 use Rattle.cf_answer.proofs.check.check_existence.Goals as goal
 
 pub returns : goal.returns
-returns c = on_ok_weaker c.put_existence_line.result (λ h. (c.in_ok-answer.answer, c.in_ok-answer.ensures, h)) c.put_existence_line.ensures
+returns c = (c.in_ok-answer.answer, c.in_ok-answer.ensures, c.in_ok-put_existence_line.ensures, c.unmet_existence.ensures)

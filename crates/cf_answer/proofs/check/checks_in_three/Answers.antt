@@ -1,9 +1,11 @@
 use Rattle.std.proofs.Common.{map, subst, sym}
 use Rattle.std.proofs.lemmas.Result.{err_from_is_err_and}
 use Rattle.cf_tree.specs.DefView.{def_tree}
+use Rattle.cf_tree.specs.declared.base.Edition.TheVariants.{Three}
 use Rattle.cf_form.specs.ToldView.{told_choose}
+use Rattle.cf_answer.specs.Owed.{AreChecks}
 use Rattle.cf_answer.specs.Sources.{AreToldIn}
-use Rattle.cf_answer.proofs.FormedLemmas.{formed_lowered}
+use Rattle.cf_answer.proofs.FormedLemmas.{conditions_held, formed_lowered}
 use Rattle.cf_answer.proofs.MatchClassLemmas.{told_classes}
 use Rattle.cf_answer.proofs.TextLemmas.{broken_refused}
 use Rattle.cf_answer.proofs.check.checks_in_three.Goals as goal
@@ -18,14 +20,15 @@ checks-requires c =
     let matches = rw c.typed-typed.ensures at c.in_ok-lowered.ensures.matches in
     told_classes (map def_tree c.in_ok-formed.formed.typed.defs.items) c.in_ok-formed.formed.typed.main _ typed matches
 
-pub returns-in_err-text : goal.returns-in_err-text
-returns-in_err-text c =
-    let p = err_from_is_err_and c.from_residual-in_err-text.result c.from_residual-in_err-text.ensures.1 in
+pub returns-in_err-checks : goal.returns-in_err-checks
+returns-in_err-checks c =
+    let p = err_from_is_err_and c.from_residual-in_err-checks.result c.from_residual-in_err-checks.ensures.1 in
     let typed = rw c.typed-typed.ensures at c.main.ensures.typed in
     let defs = rw c.typed-typed.ensures at c.in_ok-lowered.ensures.defs in
     let matches = rw c.typed-typed.ensures at c.in_ok-lowered.ensures.matches in
     let s = formed_lowered c.args.text.now c.in_ok-formed.formed c.in_ok-lowered.lowered c.requires.edition c.in_ok-formed.ensures typed defs matches in
-    rw (p.1, p.2) (c.in_err-text.ensures c.args.text.now s)
+    let told = rw c.chooses.ensures at c.in_err-checks.ensures in
+    rw (p.1, p.2) (told Three c.args.text.now s (conditions_held c.args.text.now c.in_ok-formed.formed c.in_ok-formed.ensures))
 
 pub returns : goal.returns
 returns c =
@@ -39,5 +42,7 @@ returns c =
       (f.0, f.1, subst (λ e. AreToldIn e f.0 told) (sym c.requires.edition) (f.2.0, f.2.1, f.2.2.1)),
       s.typed,
       s.is,
-      rw c.chooses.ensures at c.in_ok-text.ensures c.args.text.now s,
+      subst (λ e. AreChecks e told s.typed c.in_ok-checks.checks.text.items c.in_ok-checks.checks.answered) (sym c.requires.edition)
+          (rw c.chooses.ensures at c.in_ok-checks.ensures Three c.args.text.now s
+          (conditions_held c.args.text.now c.in_ok-formed.formed c.in_ok-formed.ensures)),
     )

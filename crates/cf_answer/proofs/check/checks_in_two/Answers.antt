@@ -1,6 +1,10 @@
-use Rattle.std.proofs.Common.{[], refl, subst, sym}
+use Rattle.std.proofs.Common.{[], refl, subst, sym, All}
+use Rattle.std.proofs.lemmas.List.Elements.{All-nil}
 use Rattle.std.proofs.lemmas.Result.{err_from_is_err_and}
+use Rattle.cf_tree.specs.declared.base.Edition.TheVariants.{Two}
+use Rattle.cf_answer.specs.Owed.{AreChecks}
 use Rattle.cf_answer.specs.Sources.{AreToldIn}
+use Rattle.cf_form.specs.Told.{HoldsCondition}
 use Rattle.cf_answer.proofs.TextLemmas.{broken_refused}
 use Rattle.cf_answer.proofs.check.checks_in_two.Goals as goal
 
@@ -11,10 +15,10 @@ returns-in_err-lowered c =
 pub checks-requires : goal.checks-requires
 checks-requires c = c.in_ok-lowered.ensures.classes
 
-pub returns-in_err-text : goal.returns-in_err-text
-returns-in_err-text c =
-    let p = err_from_is_err_and c.from_residual-in_err-text.result c.from_residual-in_err-text.ensures.1 in
-    rw (p.1, p.2) (c.in_err-text.ensures c.args.text.now c.in_ok-lowered.ensures)
+pub returns-in_err-checks : goal.returns-in_err-checks
+returns-in_err-checks c =
+    let p = err_from_is_err_and c.from_residual-in_err-checks.result c.from_residual-in_err-checks.ensures.1 in
+    rw (p.1, p.2) (c.in_err-checks.ensures Two c.args.text.now c.in_ok-lowered.ensures (All-nil (λ d. All HoldsCondition d.branches)))
 
 pub returns : goal.returns
 returns c =
@@ -23,5 +27,6 @@ returns c =
       (s.is.0, s.is.1, subst (λ e. AreToldIn e s.is.0 []) (sym c.requires.edition) refl),
       s.typed,
       s.is,
-      c.in_ok-text.ensures c.args.text.now s,
+      subst (λ e. AreChecks e [] s.typed c.in_ok-checks.checks.text.items c.in_ok-checks.checks.answered) (sym c.requires.edition)
+          (c.in_ok-checks.ensures Two c.args.text.now s (All-nil (λ d. All HoldsCondition d.branches))),
     )

@@ -17,7 +17,7 @@ returns-in_err-text-clause-answers g c =
 
 pub returns-clause-answers : goal.returns-clause-answers
 returns-clause-answers g c =
-    λ file input. printed_answers _ _ _ _ _ _ input _ _ _ refl (called_passed _ _ _ c.in_ok-target.ensures.verdict.1)
+    λ file input. printed_answers _ _ _ _ _ _ input _ _ _ refl refl (called_passed _ _ _ c.in_ok-target.ensures.verdict.1)
     (compile_owes c.args.flags file _ _ _ _ c.in_ok-target.ensures.verdict (rw c.edition_of-edition.ensures.is at c.in_ok-text.ensures.reads_back))
     (c.deref-2.ensures.value ∙ (rw (c.deref.ensures.value, c.edition_of-edition.ensures.is) at c.in_ok-text.ensures.text))
     (rw c.edition_of-edition.ensures.is at c.write_printed.ensures.fits) (rw c.edition_of-edition.ensures.is at c.write_printed.ensures.past)

@@ -17,7 +17,7 @@ returns-in_err-text-clause-answers g c =
 
 pub returns-clause-answers : goal.returns-clause-answers
 returns-clause-answers g c =
-    λ input. written_answers _ _ _ _ _ _ input _ _ _ refl (λ e. refl) (called_passed true _ _ c.in_ok-target.ensures.verdict.1)
+    λ input. written_answers _ _ _ _ _ _ input _ _ _ refl refl (λ e. refl) (called_passed true _ _ c.in_ok-target.ensures.verdict.1)
     (workload_owes c.args.size _ _ _ _ _ c.in_ok-target.ensures.verdict c.in_ok-text.ensures.1 c.in_ok-text.ensures.2)
     (c.deref.ensures.value ∙ sym (append-nil _)) c.write_text.ensures.all c.write_text.ensures.prefix c.write_text.ensures.fault c.write_text.ensures.count
 

@@ -18,6 +18,6 @@ returns-in_err-text-clause-answers g c =
 pub returns-clause-answers : goal.returns-clause-answers
 returns-clause-answers g c =
     let s = c.in_ok-program.ensures in
-    λ file given input. written_answers _ given given _ _ _ input _ _ _ refl (λ e. refl) refl
+    λ file given input. written_answers _ given given _ _ _ input _ _ _ refl refl (λ e. refl) refl
     (_, branched_source c.args.text.now c.in_ok-program.program s, c.in_ok-text.ensures c.args.text.now s)
     (c.deref.ensures.value ∙ sym (append-nil _)) c.write_text.ensures.all c.write_text.ensures.prefix c.write_text.ensures.fault c.write_text.ensures.count

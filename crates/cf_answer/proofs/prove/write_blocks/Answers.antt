@@ -20,7 +20,7 @@ pub returns-clause-answers : goal.returns-clause-answers
 returns-clause-answers g c =
     let s = c.in_ok-program.ensures in
     let edition : c.edition.result ≡ edition_of c.args.text.now = c.edition.ensures ∙ sym s.edition in
-    λ file given input. printed_answers _ given given _ _ _ input _ _ _ refl refl
+    λ file given input. printed_answers _ given given _ _ _ input _ _ _ refl refl refl
     (_, branched_source c.args.text.now c.in_ok-program.program s, c.in_ok-text.ensures c.args.text.now s)
     (c.deref.ensures.value ∙ sym (append-nil _)) (rw edition at c.write_printed.ensures.fits) (rw edition at c.write_printed.ensures.past)
     (λ e. rw (c.write_printed.ensures.unwritten e) refl) c.write_printed.ensures.all c.write_printed.ensures.prefix c.write_printed.ensures.fault

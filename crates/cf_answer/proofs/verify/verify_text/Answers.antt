@@ -49,7 +49,7 @@ returns-in-Yes-clause-answers g c =
     let branched = branched_all source c.args.program.now _ chooses c.typed.ensures.value c.in_ok-chooses.ensures.chooses s in
     let linear = subst (EachOf IsLinearChoose) (sym (plain_chooses told [] qs)) (are_linear chooses c.in_ok-chooses.ensures.typed) in
     let edition : c.edition.result ≡ edition_of source = c.edition.ensures ∙ sym s.edition in
-    written_answers _ given given _ _ _ input _ _ _ refl (λ e. refl) refl
+    written_answers _ given given _ _ _ input _ _ _ refl refl (λ e. refl) refl
     (verified_owes file steps source c.args.text.now given given [] (in_branches told [] qs) blocks _ branched linear
     (subst (λ e. AreReadFrom e c.args.text.now blocks) edition c.in_ok-blocks.ensures)
     (rw (c.deref.ensures.value, c.chooses.ensures, c.in-Yes.is) at c.in_ok-verdict.ensures)

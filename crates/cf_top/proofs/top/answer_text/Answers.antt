@@ -20,3 +20,7 @@ returns-in-Exec-clause-answers g c = rw c.in-Exec.is (c.run_target.ensures.answe
 pub returns-in-Prove-clause-answers : goal.returns-in-Prove-clause-answers
 returns-in-Prove-clause-answers g c =
     rw c.in-Prove.is (c.write_blocks.ensures.answers c.args.command.now.file.now _ (g.I.Source.seen c.args.input.now))
+
+pub returns-in-Emit-clause-answers : goal.returns-in-Emit-clause-answers
+returns-in-Emit-clause-answers g c =
+    rw c.in-Emit.is (c.write_emitted.ensures.answers c.args.command.now.file.now (g.I.Source.seen c.args.input.now))

@@ -1,17 +1,19 @@
-use Rattle.std.proofs.Common.{rules, ◌≡◌, ◌∙◌, sym, ap, ap₂, Some, None, option_map}
-use Rattle.cf_words.proofs.FoundLemmas.{operand_is}
-use Rattle.cf_words.specs.Commands.{plain_command}
-use Rattle.cf_words.specs.Words.{command_for}
+use Rattle.std.proofs.Common.{◌∙◌, sym, Ok, Err}
+use Rattle.clap.specs.Words.{found_of, rows_of}
+use Rattle.cf_words.proofs.FoundLemmas.{answer_none, answer_some, emit_behind, plain_behind}
+use Rattle.cf_words.specs.declared.fault.WordsFault.TheVariants.{Usage}
 use Rattle.cf_words.proofs.matches.command_behind.Goals as goal
 
-pub returns-in_err-operand-clause-command : goal.returns-in_err-operand-clause-command
-returns-in_err-operand-clause-command c =
-    let none : c.get_str.result ≡ None = search rules in
-    let given_up : c.from_residual.result ≡ None = search rules in
-    ap (option_map plain_command) given_up ∙ operand_is c.args.found.now c.args.name.now None (rw none at c.get_str.ensures) (sym c.eq.ensures ∙ c.if-eq.false)
+pub returns-then-eq-clause-command : goal.returns-then-eq-clause-command
+returns-then-eq-clause-command c =
+    emit_behind c.args.name.now (rows_of (found_of c.args.found.now)) _ (sym c.eq.ensures ∙ c.if-eq.true) c.emit_found.ensures.command
 
-pub returns-clause-command : goal.returns-clause-command
-returns-clause-command c =
-    let some : c.get_str.result ≡ Some c.in_ok-operand.operand = search rules in
-    c.command_for.ensures.command ∙ ap₂ (λ f g. command_for c.args.name.now f g c.in_ok-operand.operand.now) c.flags_found.ensures c.form_found.ensures
-    ∙ operand_is c.args.found.now c.args.name.now (Some c.in_ok-operand.operand) (rw some at c.get_str.ensures) (sym c.eq.ensures ∙ c.if-eq.false)
+pub returns-in-Some-clause-command : goal.returns-in-Some-clause-command
+returns-in-Some-clause-command c =
+    plain_behind c.args.name.now (rows_of (found_of c.args.found.now)) (Ok c.in-Some.command) (sym c.eq.ensures ∙ c.if-eq.false)
+    (answer_some _ _ c.in-Some.command c.plain_found.ensures.command c.in-Some.is)
+
+pub returns-in-None-clause-command : goal.returns-in-None-clause-command
+returns-in-None-clause-command c =
+    plain_behind c.args.name.now (rows_of (found_of c.args.found.now)) (Err Usage) (sym c.eq.ensures ∙ c.if-eq.false)
+    (answer_none _ _ c.plain_found.ensures.command c.in-None.is)

@@ -1,0 +1,15 @@
+//! Whether a choose has outputs for every choice of its parameters, and whether they are the only ones: by an elimination of its
+//! questions, and where a question is left in doubt, by a search for a refutation of it. Where the search ends at a model, its
+//! values are tried.
+#![tactic(auto)]
+
+mod effort;
+mod existence;
+mod samples;
+mod searching;
+mod uniqueness;
+
+pub use crate::effort::Effort;
+pub use crate::existence::decide_existence;
+pub use crate::searching::MOST_VARIABLES;
+pub use crate::uniqueness::decide_uniqueness;

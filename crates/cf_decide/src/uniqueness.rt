@@ -1,0 +1,133 @@
+//! Whether outputs are the only ones.
+ghost use Rattle.std.specs.Prelude.{◌≡◌, ◌+◌, ◌≤◌, length, IfOk};
+ghost use Rattle.cf_tree.specs.RelView.{rel_tree};
+ghost use Rattle.cf_warn.specs.Answering.{IsTwoOf};
+ghost use Rattle.cf_warn.specs.Questions.{parameters, twice, twice_outputs};
+ghost use Rattle.cf_decide.specs.Answers.{SaysUniqueness};
+ghost use Rattle.cf_decide.specs.Finding.{IsFound};
+
+use crate::effort::Effort;
+use crate::searching::{Found, search};
+use cf_choose::Solved;
+use cf_eval::Value;
+use cf_tree::{NoMemory, without};
+use cf_warn::{Doubt, UniquenessAnswer, parameters, twice, twice_outputs, uniqueness};
+use std::alloc::Global;
+
+/// Whether a choose has two solutions with the same parameters that differ in one of the first so many outputs, which are
+/// shown: `Unique` where it has none, `Two` solutions at one sample, or a doubt, which promises nothing.
+///
+/// # Errors
+/// `NoMemory` where memory ran out.
+pub fn decide_uniqueness(
+    alloc: Global,
+    solved: &Solved,
+    shown: usize,
+    effort: Effort,
+) -> Result<UniquenessAnswer, NoMemory>
+    ensures { IfOk result (SaysUniqueness solved.now.scope.items solved.now.outputs.items shown (rel_tree solved.now.rel)) }
+{
+    let answer = by_elimination(alloc, solved, shown)?;
+    match followed(effort, &answer) {
+        Some(doubt) => by_search(alloc, solved, shown, without(answer, doubt)),
+        None => Ok(answer),
+    }
+}
+
+fn by_elimination(
+    alloc: Global,
+    solved: &Solved,
+    shown: usize,
+) -> Result<UniquenessAnswer, NoMemory>
+    ensures { IfOk result (SaysUniqueness solved.now.scope.items solved.now.outputs.items shown (rel_tree solved.now.rel)) }
+{
+    uniqueness(alloc, solved, shown)
+}
+
+// The doubt of the answer, where it is to be followed.
+fn followed(effort: Effort, answer: &UniquenessAnswer) -> Option<Doubt> {
+    match effort {
+        Effort::Elimination => None,
+        Effort::Refutation => doubt_of(answer),
+    }
+}
+
+fn doubt_of(answer: &UniquenessAnswer) -> Option<Doubt> {
+    match answer {
+        UniquenessAnswer::Undecided(doubt) => Some(*doubt),
+        UniquenessAnswer::Unique | UniquenessAnswer::Two { .. } => None,
+    }
+}
+
+// What a search finds, or the doubt.
+fn by_search(
+    alloc: Global,
+    solved: &Solved,
+    shown: usize,
+    doubt: Doubt,
+) -> Result<UniquenessAnswer, NoMemory>
+    ensures { IfOk result (SaysUniqueness solved.now.scope.items solved.now.outputs.items shown (rel_tree solved.now.rel)) }
+{
+    let params = parameters(alloc, solved)?;
+    let count = params.len();
+    let found = searched(alloc, solved, params, shown)?;
+    answer(solved, count, shown, doubt, found)
+}
+
+// What a search finds of the question whether there are two solutions.
+fn searched(
+    alloc: Global,
+    solved: &Solved,
+    params: Vec<u32>,
+    shown: usize,
+) -> Result<Found, NoMemory>
+    requires { params.items ≡ parameters solved.now.scope.items (rel_tree solved.now.rel) }
+    ensures { IfOk result (IsFound (twice_outputs solved.now.scope.items solved.now.outputs.items (rel_tree solved.now.rel))
+        (twice solved.now.scope.items solved.now.outputs.items shown (rel_tree solved.now.rel))) }
+{
+    let bases = twice_outputs(alloc, solved, &params)?;
+    let rel = twice(alloc, solved, params, shown)?;
+    let found = search(alloc, &bases, &rel);
+    without(rel, found)
+}
+
+// The answer, where this is found of the question.
+fn answer(
+    solved: &Solved,
+    count: usize,
+    shown: usize,
+    doubt: Doubt,
+    found: Found,
+) -> Result<UniquenessAnswer, NoMemory>
+    requires count { count ≡ length (parameters solved.now.scope.items (rel_tree solved.now.rel)) }
+    requires found { IsFound (twice_outputs solved.now.scope.items solved.now.outputs.items (rel_tree solved.now.rel))
+        (twice solved.now.scope.items solved.now.outputs.items shown (rel_tree solved.now.rel)) found }
+    ensures { IfOk result (SaysUniqueness solved.now.scope.items solved.now.outputs.items shown (rel_tree solved.now.rel)) }
+{
+    let outputs = solved.outputs().len();
+    match found {
+        Found::Never => Ok(UniquenessAnswer::Unique),
+        Found::At(values) => two(values, count, outputs),
+        Found::Nothing => Ok(UniquenessAnswer::Undecided(doubt)),
+    }
+}
+
+// So many values as the sample, so many as the first solution, and the rest as the second.
+fn two(values: Vec<Value>, count: usize, outputs: usize) -> Result<UniquenessAnswer, NoMemory>
+    requires { count + outputs ≤ length values.items }
+    ensures { IfOk result (IsTwoOf count outputs values.items) }
+{
+    let mut sample = values;
+    let mut first = match sample.split_off(count) {
+        Ok(first) => first,
+        Err(_) => return Err(without(sample, NoMemory)),
+    };
+    match first.split_off(outputs) {
+        Ok(second) => Ok(UniquenessAnswer::Two {
+            sample,
+            first,
+            second,
+        }),
+        Err(_) => Err(without(sample, without(first, NoMemory))),
+    }
+}

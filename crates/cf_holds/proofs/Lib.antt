@@ -1,0 +1,3 @@
+pub mod NumberLaws
+pub mod TruthLaws
+mod Examples

@@ -1,0 +1,4 @@
+pub mod LoopLaws
+pub mod ParameterLaws
+pub mod StatementLaws
+pub mod StatementExamples

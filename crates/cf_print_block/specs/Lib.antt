@@ -1,0 +1,4 @@
+pub mod Places
+pub mod PrinterView
+pub mod Statements
+pub mod StatementParts

@@ -1,0 +1,3 @@
+pub mod PrintLaws
+pub mod PrintedExamples
+pub mod FileExamples
