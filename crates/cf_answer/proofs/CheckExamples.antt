@@ -2,13 +2,16 @@
 use Rattle.std.proofs.Common.{◌≡◌, ap, refl, Ok, Err, ℕ, zero, suc, pos, negsuc, List, [], ◌∷◌, Vec, Global, arith, codes}
 use Rattle.std.specs.Fmt.{digits}
 use Rattle.std.specs.Prelude.{Contains}
+use Rattle.std.proofs.lemmas.List.Elements.{All-nil, All-cons}
 use Rattle.cf_tree.specs.declared.base.Base.TheVariants.{Int, Set}
 use Rattle.cf_tree.specs.declared.base.Edition.TheVariants.{Two, Three}
 use Rattle.cf_tree.specs.declared.base.Order.TheVariants.{Eq}
 use Rattle.cf_tree.specs.RelTree.{term_lit, term_var, term_add, term_mul, set_var, rel_false, rel_compare, rel_subset, rel_and}
 use Rattle.cf_linear.specs.declared.refusal.LimitKind.TheVariants as kind
 use Rattle.cf_linear.specs.declared.refusal.Refusal.TheVariants as refusal
+use Rattle.cf_match.specs.Classes.{IsIn}
 use Rattle.cf_match.specs.Matches.{MatchTree}
+use Rattle.cf_match.specs.declared.class.Class.{Class}
 use Rattle.cf_match.specs.declared.class.Class.TheVariants.{Point, Residue}
 use Rattle.cf_tree.specs.ChooseTree.{ChooseTree}
 use Rattle.cf_eval.specs.declared.value.Value.{Value as RunValue}
@@ -171,6 +174,20 @@ undecided_arm_of_three = of_arm _ there (0, omega arith, refl) (uniqueness.Undec
 undecided_match_of_three : AreLines Three one_match [] of_no_arm (codes "match 1: coverage undecided: overflow\n") (answered one_undecided nothing_unmet)
 unfolding digits
 undecided_match_of_three = of_match _ there refl (cover.Undecided Overflow) tt
+
+-- nor how it is known that no class holds a number
+five_is_odd : IsIn (Residue (pos 2) (pos 0)) (pos 5) → ⊥
+five_is_odd h = cc
+
+five_is_not_three : IsIn (Point (pos 3)) (pos 5) → ⊥
+five_is_not_three h = cc
+
+missed_match_of_three : AreLines Three one_match [] of_no_arm (codes "match 1: misses 5\n") (answered one_no nothing_unmet)
+unfolding digits
+missed_match_of_three =
+    let misses : Class → Type 0 = λ c. IsIn c (pos 5) → ⊥ in
+    of_match _ there refl (cover.Misses (pos 5))
+    (All-cons misses (Residue (pos 2) (pos 0)) (Point (pos 3) ∷ []) five_is_odd (All-cons misses (Point (pos 3)) [] five_is_not_three (All-nil misses)))
 
 -- ---- a strict check
 -- two noes on existence and one doubt; a no and two doubts on uniqueness

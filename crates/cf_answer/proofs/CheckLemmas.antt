@@ -6,13 +6,11 @@ use Rattle.std.proofs.lemmas.List.Elements.{All-head, All-tail}
 use Rattle.std.proofs.lemmas.List.Sorted.{Contains-permutation, IsPermutation-sym}
 use Rattle.cf_tree.specs.declared.base.Base.{Base}
 use Rattle.cf_tree.specs.declared.base.Edition.{Edition}
-use Rattle.cf_tree.specs.declared.base.Edition.TheVariants.{Two, Three}
 use Rattle.cf_tree.specs.RelView.{rel_tree}
 use Rattle.cf_tree.specs.DefView.{DefTree}
 use Rattle.cf_tree.specs.Params.{names_of}
 use Rattle.cf_program.specs.Lowered.{lowered_def}
 use Rattle.cf_match.specs.Matches.{MatchTree, match_tree, all_matches}
-use Rattle.cf_match.specs.declared.class.Class.{Class}
 use Rattle.cf_match.specs.declared.lowered.MatchInfo.{MatchInfo}
 use Rattle.cf_tree.specs.ChooseTree.{ChooseTree}
 use Rattle.cf_build.specs.Chooses.{all_chooses, by_number, limit_of}
@@ -20,15 +18,12 @@ use Rattle.cf_build.specs.Solves.{IsSolved, AreSolved}
 use Rattle.cf_build.proofs.SolveLists.{solved_number, solved_names}
 use Rattle.cf_build.specs.declared.solves.SolvedChoose.{SolvedChoose}
 use Rattle.cf_warn.specs.Questions.{parameters}
-use Rattle.cf_warn.specs.Covers.{IsCover}
 use Rattle.cf_warn.specs.Verdicts.{IsExistence, IsUniqueness}
 use Rattle.cf_warn.specs.declared.answer.ExistenceAnswer.{ExistenceAnswer}
 use Rattle.cf_warn.specs.declared.answer.UniquenessAnswer.{UniquenessAnswer}
-use Rattle.cf_warn.specs.declared.coverage.Cover.{Cover}
-use Rattle.cf_warn.specs.declared.coverage.Cover.TheVariants as cover
 use Rattle.cf_answer.specs.Checks.{IsMatch, IsArm, IsOwn, AreLines, of_choose, of_told, of_arm, of_match, AreLinesBy, IsCheckBehind, AreChecksBehind, asked_of, told_existence_line, told_uniqueness_line, cover_line, existence_line, existence_text, names_at, uniqueness_line, uniqueness_text}
 use Rattle.cf_answer.specs.Checking.{AddsCheck, AddsCheckBehind, AddsTold, AddsCover, AddsExistence, AddsUniqueness}
-use Rattle.cf_answer.specs.Tells.{TellsClasses, TellsCover, TellsExistence, TellsUniqueness}
+use Rattle.cf_answer.specs.Tells.{TellsExistence, TellsUniqueness}
 use Rattle.cf_answer.specs.ToldChecks.{Asked, named_levels, told_of, is_later_branch}
 use Rattle.cf_answer.specs.Unmet.{answered, nothing_answered, nothing_unmet, unmet_existence, unmet_uniqueness, with_answered, with_unmet}
 use Rattle.cf_answer.specs.declared.unmet.Answered.{Answered}
@@ -118,16 +113,6 @@ conditions_of (d ∷ told) n c is h =
     one_of_two (λ x. All HoldsCondition x.branches) (d.number == n) d c (told_of told n) is (All-head (λ x. All HoldsCondition x.branches) d told h)
     (λ e. conditions_of told n c e (All-tail (λ x. All HoldsCondition x.branches) d told h))
 
--- ---- what verdicts on questions say of an arm and of a match
-classes_told : (classes : List Class) (c : Cover) → IsCover classes c → TellsClasses classes c
-classes_told classes cover.All h = h.1
-classes_told classes (cover.Misses z) h = h.1
-classes_told classes (cover.Undecided d) h = tt
-
-cover_told : (edition : Edition) (classes : List Class) (c : Cover) → IsCover classes c → TellsCover edition classes c
-cover_told Two classes c h = h
-cover_told Three classes c h = classes_told classes c h
-
 module _ (edition : Edition) (matches : List MatchTree) (told : List ToldChoose) (s : SolvedChoose) (old : List ℕ) where
   pub choose_checked : (levels mid new : List ℕ) (exists unique : Unmet) → levels ≡ parameters s.solved.scope.items (rel_tree s.solved.rel) →
       AddsExistence s levels old mid exists →
@@ -161,11 +146,11 @@ module _ (edition : Edition) (matches : List MatchTree) (told : List ToldChoose)
   )
 
   pub match_checked : (new : List ℕ) (info : MatchInfo) (covered : Unmet) → Contains matches (match_tree info) → IsMatch (match_tree info) s.choose.number →
-      AddsCover s.choose.number info.classes.items old new covered → AddsCheck edition matches told s old new (answered covered nothing_unmet)
+      AddsCover edition s.choose.number info.classes.items old new covered → AddsCheck edition matches told s old new (answered covered nothing_unmet)
   match_checked new info covered there is (c, c_is, first, unmet) q h conditions = (
     cover_line q.number c,
     first ∙ ap (λ n. old ++ cover_line n c) (solved_number q s h),
-    rw unmet (of_match (match_tree info) there (is ∙ solved_number q s h) c (cover_told edition info.classes.items c c_is)),
+    rw unmet (of_match (match_tree info) there (is ∙ solved_number q s h) c c_is),
   )
 
   -- ---- behind another choose, which may be one of the same number

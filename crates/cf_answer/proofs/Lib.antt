@@ -14,6 +14,7 @@ mod CheckExamples
 pub mod CheckLemmas
 mod CommandExamples
 pub mod CountLemmas
+pub mod CoverageLemmas
 mod DoesExamples
 mod EmitExamples
 pub mod EmitLemmas

@@ -19,7 +19,6 @@ use Rattle.cf_form.specs.declared.told.TruthAt.{TruthAt}
 use Rattle.cf_build.specs.Solves.{IsSolved}
 use Rattle.cf_build.specs.declared.solves.SolvedChoose.{SolvedChoose}
 use Rattle.cf_warn.specs.Classes.{AreClasses}
-use Rattle.cf_warn.specs.Covers.{IsCover}
 use Rattle.cf_warn.specs.Verdicts.{IsExistence, IsUniqueness}
 use Rattle.cf_warn.specs.declared.answer.Doubt.TheVariants.{Refused}
 use Rattle.cf_warn.specs.declared.answer.ExistenceAnswer.{ExistenceAnswer}
@@ -28,7 +27,7 @@ use Rattle.cf_warn.specs.declared.answer.UniquenessAnswer.{UniquenessAnswer}
 use Rattle.cf_warn.specs.declared.answer.UniquenessAnswer.TheVariants as uniqueness
 use Rattle.cf_warn.specs.declared.coverage.Cover.{Cover}
 use Rattle.cf_answer.specs.Checks.{IsMatch, IsArm, IsOwn, AreLines, IsCheckBehind, asked_of, cover_line, told_existence_line, told_uniqueness_line, existence_text, names_at, uniqueness_text}
-use Rattle.cf_answer.specs.Tells.{TellsExistence, TellsUniqueness}
+use Rattle.cf_answer.specs.Tells.{TellsCover, TellsExistence, TellsUniqueness}
 use Rattle.cf_answer.specs.Texts.{numbered_line}
 use Rattle.cf_answer.specs.ToldChecks.{Asked, named_sample}
 use Rattle.cf_answer.specs.Unmet.{answered, unmet_cover, unmet_existence, unmet_uniqueness}
@@ -65,8 +64,8 @@ AddsUniqueness s levels old new unmet =
     × IsUniqueness s.solved.scope.items s.solved.outputs.items (length s.solved.outputs.items) (rel_tree s.solved.rel) u
     × (new ≡ old ++ numbered_line s.choose.number (uniqueness_text (names_at (names_of s.choose.scope.now) levels) u)) × (unmet ≡ unmet_uniqueness u)
 
-abbrev pub AddsCover : ℕ → List Class → List ℕ → List ℕ → Unmet → Type 0
-AddsCover n classes old new unmet = (c : Cover) × IsCover classes c × (new ≡ old ++ cover_line n c) × (unmet ≡ unmet_cover c)
+abbrev pub AddsCover : Edition → ℕ → List Class → List ℕ → List ℕ → Unmet → Type 0
+AddsCover edition n classes old new unmet = (c : Cover) × TellsCover edition classes c × (new ≡ old ++ cover_line n c) × (unmet ≡ unmet_cover c)
 
 -- the lines of a choose were added, with what they answer, where the conditions that are told are part of the relations
 abbrev pub AddsCheck : Edition → List MatchTree → List ToldChoose → SolvedChoose → List ℕ → List ℕ → Answered → Type 0

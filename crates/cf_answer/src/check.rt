@@ -29,6 +29,7 @@ ghost use Rattle.cf_answer.specs.ToldChecks.{is_later_branch as is_later_branch_
 
 use crate::choose_line::put_head;
 use crate::choose_origin::{Matches, Origin, arms_of, origin_of};
+use crate::coverage::cover_in;
 use crate::fault::Fault;
 use crate::source::{read_formed, read_lowered};
 use crate::told_check::{
@@ -46,9 +47,7 @@ use cf_io::Sink;
 use cf_lex::edition_of;
 use cf_match::{Lowered, MatchInfo, lower};
 use cf_tree::{Edition, NoMemory};
-use cf_warn::{
-    Cover, ExistenceAnswer, UniquenessAnswer, covers, existence, parameters, uniqueness,
-};
+use cf_warn::{Cover, ExistenceAnswer, UniquenessAnswer, existence, parameters, uniqueness};
 use cf_words::Strictness;
 use std::alloc::Global;
 
@@ -129,14 +128,15 @@ fn check_uniqueness(
 // Asks whether the arms of a match cover all numbers, and adds the line.
 fn check_cover(
     alloc: Global,
+    edition: Edition,
     number: u32,
     info: &MatchInfo,
     text: &mut Vec<u8>,
 ) -> Result<Unmet, NoMemory>
     requires { AreClasses info.now.classes.items }
-    ensures { IfOk result (AddsCover number info.now.classes.items text.old.items text.new.items) }
+    ensures { IfOk result (AddsCover edition number info.now.classes.items text.old.items text.new.items) }
 {
-    let answer = covers(alloc, &info.classes)?;
+    let answer = cover_in(alloc, edition, &info.classes)?;
     put_cover_line(text, number, &answer)?;
     Ok(unmet_cover(&answer))
 }
@@ -212,8 +212,8 @@ fn check_arm(
     text: &mut Vec<u8>,
 ) -> Result<Answered, NoMemory>
     requires { (m : MatchTree) × Contains (map match_tree matches.now.infos.now) m × IsArm m choose.now.choose.number }
-    ensures { IfOk result (λ a. (edition : TheEdition) (told : List ToldChoose) →
-        AddsCheck edition (map match_tree matches.now.infos.now) told choose.now text.old.items text.new.items a) }
+    ensures { IfOk result (λ a. (told : List ToldChoose) →
+        AddsCheck matches.now.edition (map match_tree matches.now.infos.now) told choose.now text.old.items text.new.items a) }
 {
     let levels = parameters(alloc, &choose.solved)?;
     let unique = check_uniqueness(alloc, choose, &levels, text)?;
@@ -234,10 +234,10 @@ fn check_match(
     requires among { Contains (map match_tree matches.now.infos.now) (match_tree info.now) }
     requires number { IsMatch (match_tree info.now) choose.now.choose.number }
     requires classes { AreClasses info.now.classes.items }
-    ensures { IfOk result (λ a. (edition : TheEdition) (told : List ToldChoose) →
-        AddsCheck edition (map match_tree matches.now.infos.now) told choose.now text.old.items text.new.items a) }
+    ensures { IfOk result (λ a. (told : List ToldChoose) →
+        AddsCheck matches.now.edition (map match_tree matches.now.infos.now) told choose.now text.old.items text.new.items a) }
 {
-    let covered = check_cover(alloc, choose.choose.number, info, text)?;
+    let covered = check_cover(alloc, matches.edition, choose.choose.number, info, text)?;
     Ok(Answered {
         existence: covered,
         uniqueness: nothing_unmet(),
@@ -253,8 +253,8 @@ fn check_number(
     text: &mut Vec<u8>,
 ) -> Result<Answered, NoMemory>
     requires { AreMatches matches.now.infos.now matches.now.arms.now }
-    ensures { IfOk result (λ a. (edition : TheEdition) →
-        AddsCheck edition (map match_tree matches.now.infos.now) (map told_choose told.now) choose.now text.old.items text.new.items a) }
+    ensures { IfOk result
+        (AddsCheck matches.now.edition (map match_tree matches.now.infos.now) (map told_choose told.now) choose.now text.old.items text.new.items) }
 {
     match origin_of(matches, choose.choose.number) {
         Origin::Choose => check_own(alloc, told, choose, text),
@@ -274,8 +274,8 @@ fn check_next(
     text: &mut Vec<u8>,
 ) -> Result<Answered, NoMemory>
     requires { AreMatches matches.now.infos.now matches.now.arms.now }
-    ensures { IfOk result (λ a. (edition : TheEdition) →
-        AddsCheckBehind edition (map match_tree matches.now.infos.now) (map told_choose told.now) before choose.now text.old.items text.new.items a) }
+    ensures { IfOk result
+        (AddsCheckBehind matches.now.edition (map match_tree matches.now.infos.now) (map told_choose told.now) before choose.now text.old.items text.new.items) }
 {
     if is_later_branch(told, before, choose.choose.number) {
         return Ok(nothing_answered());
@@ -297,8 +297,8 @@ fn check_each(
     chooses: &[SolvedChoose<'_>],
 ) -> Result<AnsweredText, NoMemory>
     requires { AreMatches matches.now.infos.now matches.now.arms.now }
-    ensures { IfOk result (λ c. (edition : TheEdition) (qs : List ChooseTree) → AreSolved qs chooses.now → HoldConditions (map told_choose told.now) →
-        AreChecksBehind edition (map match_tree matches.now.infos.now) (map told_choose told.now) 0 qs c.text.items c.answered) }
+    ensures { IfOk result (λ c. (qs : List ChooseTree) → AreSolved qs chooses.now → HoldConditions (map told_choose told.now) →
+        AreChecksBehind matches.now.edition (map match_tree matches.now.infos.now) (map told_choose told.now) 0 qs c.text.items c.answered) }
 {
     let mut text = Vec::new(alloc);
     let mut answered = nothing_answered();
@@ -311,31 +311,42 @@ fn check_each(
     Ok(AnsweredText { text, answered })
 }
 
-// The lines of solved chooses in order, in a program that was made of one with these matches.
+// The lines of solved chooses in order, in a program of this edition that was made of one with these matches.
 fn lines(
     alloc: Global,
+    edition: Edition,
     infos: &[MatchInfo],
     told: &[ChooseInfo],
     chooses: &[SolvedChoose<'_>],
 ) -> Result<AnsweredText, NoMemory>
     requires order { IsNonDecreasingBy (λ m. m.number) infos.now }
     requires classes { All (λ m. AreClasses m.classes.items) infos.now }
-    ensures { IfOk result (λ c. (edition : TheEdition) (qs : List ChooseTree) → AreSolved qs chooses.now → HoldConditions (map told_choose told.now) →
+    ensures { IfOk result (λ c. (qs : List ChooseTree) → AreSolved qs chooses.now → HoldConditions (map told_choose told.now) →
         AreChecksBehind edition (map match_tree infos.now) (map told_choose told.now) 0 qs c.text.items c.answered) }
 {
     let arms = arms_of(alloc, infos)?;
-    check_each(alloc, &Matches { infos, arms: &arms }, told, chooses)
+    let matches = Matches {
+        edition,
+        infos,
+        arms: &arms,
+    };
+    check_each(alloc, &matches, told, chooses)
 }
 
-// The lines of the chooses and matches of a program in the order of their numbers, where this is told of
-// its chooses, or the choose for which it is refused.
-fn checks(alloc: Global, lowered: &Lowered, told: &[ChooseInfo]) -> Result<AnsweredText, Fault>
+// The lines of the chooses and matches of a program of this edition in the order of their numbers, where
+// this is told of its chooses, or the choose for which it is refused.
+fn checks(
+    alloc: Global,
+    edition: Edition,
+    lowered: &Lowered,
+    told: &[ChooseInfo],
+) -> Result<AnsweredText, Fault>
     requires { All (λ m. AreClasses m.classes.items) lowered.now.matches.items }
-    ensures { (edition : TheEdition) (source : List ℕ) (s : IsLoweredSource source lowered.now) → HoldConditions (map told_choose told.now) →
+    ensures { (source : List ℕ) (s : IsLoweredSource source lowered.now) → HoldConditions (map told_choose told.now) →
         IsVerdict (λ c. AreChecks edition (map told_choose told.now) s.typed c.text.items c.answered) (IsRefusedSource source) result }
 {
     let chooses = solve_all(alloc, lowered.typed())?;
-    let checks = lines(alloc, lowered.matches(), told, &chooses)?;
+    let checks = lines(alloc, edition, lowered.matches(), told, &chooses)?;
     Ok(checks)
 }
 
@@ -347,7 +358,7 @@ fn checks_in_two(alloc: Global, text: &[u8]) -> Result<AnsweredText, Fault>
     ensures { IsVerdict (λ c. AreSourceChecks text.now c.text.items c.answered) (IsRefusedSource text.now) result }
 {
     let lowered = read_lowered(alloc, text)?;
-    let checks = checks(alloc, &lowered, &[])?;
+    let checks = checks(alloc, Edition::Two, &lowered, &[])?;
     Ok(checks)
 }
 
@@ -363,7 +374,7 @@ fn checks_in_three(alloc: Global, text: &[u8]) -> Result<AnsweredText, Fault>
     // for the proof: the rules of a typed program are told by its methods alone.
     let _ = typed.main();
     let lowered = lower(alloc, typed)?;
-    let checks = checks(alloc, &lowered, formed.chooses())?;
+    let checks = checks(alloc, Edition::Three, &lowered, formed.chooses())?;
     Ok(checks)
 }
 

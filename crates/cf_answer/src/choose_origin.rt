@@ -5,7 +5,7 @@ ghost use Rattle.cf_match.specs.Matches.{match_tree};
 ghost use Rattle.cf_answer.specs.Checking.{AreMatches, IsOrigin};
 
 use cf_match::MatchInfo;
-use cf_tree::NoMemory;
+use cf_tree::{Edition, NoMemory};
 use std::alloc::Global;
 
 /// What the number of a choose is of.
@@ -18,9 +18,10 @@ pub enum Origin<'a> {
     Match(&'a MatchInfo),
 }
 
-/// The matches of a program in the order of their numbers, and the numbers of all their arms, rising.
+/// The edition of a program, its matches in the order of their numbers, and the numbers of all their arms, rising.
 #[derive(Clone, Copy)]
 pub struct Matches<'a> {
+    pub edition: Edition,
     pub infos: &'a [MatchInfo],
     pub arms: &'a [u32],
 }

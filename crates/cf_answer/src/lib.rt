@@ -8,6 +8,7 @@ mod check;
 mod choose_line;
 mod choose_origin;
 mod compile;
+mod coverage;
 mod emit;
 mod ended;
 mod exec;

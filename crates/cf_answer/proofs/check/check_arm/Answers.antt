@@ -5,7 +5,8 @@ use Rattle.cf_answer.proofs.check.check_arm.Goals as goal
 
 pub returns : goal.returns
 returns c =
-    let infos = c.args.matches.now.infos.now in
-    λ edition told. rw c.nothing_unmet.ensures
-    (arm_checked edition (map match_tree infos) told c.args.choose.now _ c.in_ok-levels.levels.items _ c.in_ok-unique.unique c.in_ok-levels.ensures c.requires
+    let matches = c.args.matches.now in
+    λ told. rw c.nothing_unmet.ensures
+    (arm_checked matches.edition (map match_tree matches.infos.now) told c.args.choose.now _ c.in_ok-levels.levels.items _ c.in_ok-unique.unique
+    c.in_ok-levels.ensures c.requires
     (rw c.deref.ensures.value at c.in_ok-unique.ensures))

@@ -6,21 +6,24 @@ use Rattle.cf_answer.proofs.check.check_each.Goals as goal
 
 pub loop-choose-init : goal.loop-choose-init
 loop-choose-init c =
+    let matches = c.args.matches.now in
     let empty : c.new-text.result.items ≡ [] = search rules in
-    λ edition qs s conditions.
-    walk_start edition (map match_tree c.args.matches.now.infos.now) (map told_choose c.args.told.now) qs c.args.chooses.now _ _ empty
+    λ qs s conditions.
+    walk_start matches.edition (map match_tree matches.infos.now) (map told_choose c.args.told.now) qs c.args.chooses.now _ _ empty
     c.nothing_answered-answered.ensures s
 
 pub loop-choose-preserved : goal.loop-choose-preserved
 loop-choose-preserved c =
+    let matches = c.args.matches.now in
     let item : c.choose-item.result ≡ get_or c.args.chooses.now c.loop-choose.choose-index c.choose-item.result = search rules in
-    λ edition qs s conditions. rw c.in_ok-answered.ensures
-    (walk_on edition (map match_tree c.args.matches.now.infos.now) (map told_choose c.args.told.now) qs c.args.chooses.now c.loop-choose.choose-index
+    λ qs s conditions. rw c.in_ok-answered.ensures
+    (walk_on matches.edition (map match_tree matches.infos.now) (map told_choose c.args.told.now) qs c.args.chooses.now c.loop-choose.choose-index
     c.loop-choose.before c.choose-item.result _ _ c.loop-choose.answered c.in_ok-more.more (omega arith) item
-    (c.loop-choose.invariant edition qs s conditions) conditions (c.in_ok-more.ensures edition))
+    (c.loop-choose.invariant qs s conditions) conditions c.in_ok-more.ensures)
 
 pub returns : goal.returns
 returns c =
-    λ edition qs s conditions.
-    walk_end edition (map match_tree c.args.matches.now.infos.now) (map told_choose c.args.told.now) qs c.args.chooses.now c.loop-choose.choose-index
-    c.loop-choose.before _ _ (omega arith) (c.loop-choose.invariant edition qs s conditions)
+    let matches = c.args.matches.now in
+    λ qs s conditions.
+    walk_end matches.edition (map match_tree matches.infos.now) (map told_choose c.args.told.now) qs c.args.chooses.now c.loop-choose.choose-index
+    c.loop-choose.before _ _ (omega arith) (c.loop-choose.invariant qs s conditions)

@@ -5,6 +5,7 @@ use Rattle.cf_answer.proofs.check.check_match.Goals as goal
 
 pub returns : goal.returns
 returns c =
-    λ edition told. rw c.nothing_unmet.ensures
-    (match_checked edition (map match_tree c.args.matches.now.infos.now) told c.args.choose.now _ _ c.args.info.now c.in_ok-covered.covered
+    let matches = c.args.matches.now in
+    λ told. rw c.nothing_unmet.ensures
+    (match_checked matches.edition (map match_tree matches.infos.now) told c.args.choose.now _ _ c.args.info.now c.in_ok-covered.covered
     c.requires.among c.requires.number c.in_ok-covered.ensures)

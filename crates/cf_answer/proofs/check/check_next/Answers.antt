@@ -7,12 +7,14 @@ use Rattle.cf_answer.proofs.check.check_next.Goals as goal
 
 pub returns-then-is_later_branch : goal.returns-then-is_later_branch
 returns-then-is_later_branch c =
-    λ edition. rw c.nothing_answered.ensures
-    (later_checked edition (map match_tree c.args.matches.now.infos.now) (map told_choose c.args.told.now) c.args.choose.now _ c.args.before
+    let matches = c.args.matches.now in
+    rw c.nothing_answered.ensures
+    (later_checked matches.edition (map match_tree matches.infos.now) (map told_choose c.args.told.now) c.args.choose.now _ c.args.before
     (sym c.is_later_branch.ensures ∙ c.if-is_later_branch.true))
 
 pub returns : goal.returns
 returns c =
+    let matches = c.args.matches.now in
     IfOk-weaker c.check_number.result _ _
-    (λ a h edition. first_checked edition (map match_tree c.args.matches.now.infos.now) (map told_choose c.args.told.now) c.args.choose.now _ c.args.before _ a
-    (sym c.is_later_branch.ensures ∙ c.if-is_later_branch.false) (h edition)) c.check_number.ensures
+    (λ a h. first_checked matches.edition (map match_tree matches.infos.now) (map told_choose c.args.told.now) c.args.choose.now _ c.args.before _ a
+    (sym c.is_later_branch.ensures ∙ c.if-is_later_branch.false) h) c.check_number.ensures

@@ -1,7 +1,6 @@
 use Rattle.std.proofs.Common.{map, subst, sym}
 use Rattle.std.proofs.lemmas.Result.{err_from_is_err_and}
 use Rattle.cf_tree.specs.DefView.{def_tree}
-use Rattle.cf_tree.specs.declared.base.Edition.TheVariants.{Three}
 use Rattle.cf_form.specs.ToldView.{told_choose}
 use Rattle.cf_answer.specs.Owed.{AreChecks}
 use Rattle.cf_answer.specs.Sources.{AreToldIn}
@@ -28,7 +27,7 @@ returns-in_err-checks c =
     let matches = rw c.typed-typed.ensures at c.in_ok-lowered.ensures.matches in
     let s = formed_lowered c.args.text.now c.in_ok-formed.formed c.in_ok-lowered.lowered c.requires.edition c.in_ok-formed.ensures typed defs matches in
     let told = rw c.chooses.ensures at c.in_err-checks.ensures in
-    rw (p.1, p.2) (told Three c.args.text.now s (conditions_held c.args.text.now c.in_ok-formed.formed c.in_ok-formed.ensures))
+    rw (p.1, p.2) (told c.args.text.now s (conditions_held c.args.text.now c.in_ok-formed.formed c.in_ok-formed.ensures))
 
 pub returns : goal.returns
 returns c =
@@ -43,6 +42,6 @@ returns c =
       s.typed,
       s.is,
       subst (λ e. AreChecks e told s.typed c.in_ok-checks.checks.text.items c.in_ok-checks.checks.answered) (sym c.requires.edition)
-          (rw c.chooses.ensures at c.in_ok-checks.ensures Three c.args.text.now s
+          (rw c.chooses.ensures at c.in_ok-checks.ensures c.args.text.now s
           (conditions_held c.args.text.now c.in_ok-formed.formed c.in_ok-formed.ensures)),
     )

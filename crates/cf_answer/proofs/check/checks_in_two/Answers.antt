@@ -1,7 +1,6 @@
 use Rattle.std.proofs.Common.{[], refl, subst, sym, All}
 use Rattle.std.proofs.lemmas.List.Elements.{All-nil}
 use Rattle.std.proofs.lemmas.Result.{err_from_is_err_and}
-use Rattle.cf_tree.specs.declared.base.Edition.TheVariants.{Two}
 use Rattle.cf_answer.specs.Owed.{AreChecks}
 use Rattle.cf_answer.specs.Sources.{AreToldIn}
 use Rattle.cf_form.specs.Told.{HoldsCondition}
@@ -18,7 +17,7 @@ checks-requires c = c.in_ok-lowered.ensures.classes
 pub returns-in_err-checks : goal.returns-in_err-checks
 returns-in_err-checks c =
     let p = err_from_is_err_and c.from_residual-in_err-checks.result c.from_residual-in_err-checks.ensures.1 in
-    rw (p.1, p.2) (c.in_err-checks.ensures Two c.args.text.now c.in_ok-lowered.ensures (All-nil (λ d. All HoldsCondition d.branches)))
+    rw (p.1, p.2) (c.in_err-checks.ensures c.args.text.now c.in_ok-lowered.ensures (All-nil (λ d. All HoldsCondition d.branches)))
 
 pub returns : goal.returns
 returns c =
@@ -28,5 +27,5 @@ returns c =
       s.typed,
       s.is,
       subst (λ e. AreChecks e [] s.typed c.in_ok-checks.checks.text.items c.in_ok-checks.checks.answered) (sym c.requires.edition)
-          (c.in_ok-checks.ensures Two c.args.text.now s (All-nil (λ d. All HoldsCondition d.branches))),
+          (c.in_ok-checks.ensures c.args.text.now s (All-nil (λ d. All HoldsCondition d.branches))),
     )
