@@ -14,9 +14,9 @@ use cf_setwit::{ColumnLevels, fresh_code, region_code, size_code};
 use cf_tree::{Code, Item, NoMemory, Order};
 use std::alloc::Global;
 
-// The next level, the levels of the columns that are named so far, and the items so far.
+/// An arm on the way: the next level, the levels of the columns that are named so far, and the items so far.
 #[derive(Drop)]
-pub(crate) struct ArmBuilder {
+pub struct ArmBuilder {
     pub level: u32,
     pub names: ColumnLevels,
     pub items: Vec<Item>,
@@ -37,8 +37,11 @@ impl ArmBuilder {
         Ok(level)
     }
 
-    // A let whose level is the name of the column.
-    fn let_named(&mut self, column: u32, code: Code) -> Result<(), NoMemory>
+    /// A let whose level is the name of the column.
+    ///
+    /// # Errors
+    /// `NoMemory` where memory ran out.
+    pub fn let_named(&mut self, column: u32, code: Code) -> Result<(), NoMemory>
         ensures { OnOk result (SameBuilder (builder_of self.new) (let_named (builder_of self.old) column (code_tree code))) }
     {
         let level = self.let_alone(code)?;
@@ -60,8 +63,11 @@ impl ArmBuilder {
         Ok(())
     }
 
-    // All regions of the input sets and their sizes.
-    pub(crate) fn regions(&mut self, alloc: Global, layout: &Layout) -> Result<(), NoMemory>
+    /// All regions of the input sets and their sizes.
+    ///
+    /// # Errors
+    /// `NoMemory` where memory ran out.
+    pub fn regions(&mut self, alloc: Global, layout: &Layout) -> Result<(), NoMemory>
         requires sets { set_count (plain_layout layout.now) ≤ MOST_SETS }
         requires room { first_free (plain_layout layout.now) < 2 ^ 32 }
         ensures { OnOk result (SameBuilder (builder_of self.new)
@@ -73,8 +79,11 @@ impl ArmBuilder {
         Ok(())
     }
 
-    // The fresh numbers, where there are output sets.
-    pub(crate) fn fresh(&mut self, alloc: Global, layout: &Layout) -> Result<(), NoMemory>
+    /// The fresh numbers, where there are output sets.
+    ///
+    /// # Errors
+    /// `NoMemory` where memory ran out.
+    pub fn fresh(&mut self, alloc: Global, layout: &Layout) -> Result<(), NoMemory>
         requires sets { set_count (plain_layout layout.now) ≤ MOST_SETS }
         requires room { first_free (plain_layout layout.now) < 2 ^ 32 }
         ensures { OnOk result (map item_tree self.new.items.items ≡ with_fresh (plain_layout layout.now) (builder_of self.old)) }
@@ -86,7 +95,11 @@ impl ArmBuilder {
         Ok(())
     }
 
-    fn need(&mut self, code: Code) -> Result<(), NoMemory>
+    /// A need of the code.
+    ///
+    /// # Errors
+    /// `NoMemory` where memory ran out.
+    pub fn need(&mut self, code: Code) -> Result<(), NoMemory>
         ensures { OnOk result (SameBuilder (builder_of self.new) (need (builder_of self.old) (code_tree code))) }
     {
         self.items.push(Item::Need(code))?;

@@ -69,8 +69,11 @@ fn build(
     Ok(gives)
 }
 
-// No items yet.
-fn start(alloc: Global, layout: &Layout, bounds: &[Search]) -> Result<ArmBuilder, NoMemory>
+/// The arm with these searches, which has no items yet: the parameters and then the search columns have levels.
+///
+/// # Errors
+/// `NoMemory` where memory ran out.
+pub fn start(alloc: Global, layout: &Layout, bounds: &[Search]) -> Result<ArmBuilder, NoMemory>
     requires sets { set_count (plain_layout layout.now) ≤ MOST_SETS }
     requires room { first_free (plain_layout layout.now) < 2 ^ 32 }
     requires levels { layout.now.scope + length bounds.now < 2 ^ 32 }

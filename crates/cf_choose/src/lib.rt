@@ -12,7 +12,9 @@ mod needs;
 mod solved;
 mod solving;
 
-pub use crate::arms::arm;
+pub use crate::arm_builder::ArmBuilder;
+pub use crate::arms::{arm, start};
+pub use crate::codes::{divides_code, how_code, need_code, quotient_code, row_code};
 pub use crate::fault::ChooseFault;
 pub use crate::levels::layout;
 pub use crate::solved::Solved;

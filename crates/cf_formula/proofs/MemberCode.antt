@@ -58,6 +58,10 @@ pub either_or : (x y : DeclaredFormula) (before mid left out : List DeclaredForm
 either_or x y before mid left out m l = two_left disjuncts (either (formula_tree x) (formula_tree y)) x y before mid left out refl refl m l
 
 -- ---- the members of part after part
+pub one_disjuncts : (f : DeclaredFormula) (parts : List DeclaredFormula) → parts ≡ f ∷ [] →
+    flat_map disjuncts (formula_trees parts) ≡ disjuncts (formula_tree f)
+one_disjuncts f parts e = ap (λ fs. flat_map disjuncts (formula_trees fs)) e ∙ append-nil (disjuncts (formula_tree f))
+
 module _ (members : Formula → List Formula) where
   pub flat_start : (parts left : List DeclaredFormula) (out : List DeclaredFormula) → left ≡ reverse parts → out ≡ [] →
       formula_trees out ++ flat_map members (formula_trees (reverse left)) ≡ flat_map members (formula_trees parts)

@@ -11,7 +11,7 @@ use cf_num::{gcd, modulo};
 
 /// Whether the row holds no column but the constant.
 #[tactic(auto, using(crate::proofs::KeyLemmas::constant_test))]
-pub(crate) fn is_constant(row: &Row) -> bool
+pub fn is_constant(row: &Row) -> bool
     ensures { result ≡ is_constant row.now }
 {
     let start = key_start(row);
@@ -20,7 +20,7 @@ pub(crate) fn is_constant(row: &Row) -> bool
 
 /// Whether the row without its constant is the other row.
 #[tactic(auto, using(crate::proofs::KeyLemmas::has_key_is, crate::proofs::KeyLemmas::other_key))]
-pub(crate) fn has_key(row: &Row, wanted: &Row) -> bool
+pub fn has_key(row: &Row, wanted: &Row) -> bool
     ensures { result ≡ same_row (key row.now) wanted.now }
 {
     let start = key_start(row);
@@ -44,7 +44,7 @@ pub(crate) fn begins_below(row: &Row) -> bool
 
 /// The greatest common divisor of the entries but the constant, 0 where there are none.
 #[tactic(auto, using(crate::proofs::KeyLemmas::divisor_end))]
-pub(crate) fn divisor(row: &Row) -> i128
+pub fn divisor(row: &Row) -> i128
     ensures value { result ≡ pos (common (key row.now)) }
     ensures fits { IsWithin result }
 {

@@ -37,6 +37,19 @@ pub fn disj(alloc: Global, parts: Vec<Formula>) -> Result<Formula, NoMemory>
     or_of(alloc, members)
 }
 
+/// The members of the formula as an `or`.
+///
+/// # Errors
+/// `NoMemory` where memory ran out.
+pub fn disjuncts(alloc: Global, formula: Formula) -> Result<Vec<Formula>, NoMemory>
+    ensures { IfOk result (λ v. formula_trees v.items ≡ disjuncts (formula_tree formula)) }
+{
+    let mut parts = Vec::new(alloc);
+    parts.push(formula)?;
+    let members = all_disjuncts(alloc, parts)?;
+    Ok(members)
+}
+
 fn and_of(alloc: Global, members: Vec<Formula>) -> Result<Formula, NoMemory>
     ensures { IfOk result (λ f. formula_tree f ≡ and_of (formula_trees members.items)) }
 {

@@ -95,9 +95,12 @@ impl Conditions {
         })
     }
 
-    // The facts, and the rows of the conditions that are at least 0.
+    /// The facts, and the rows of the conditions that are at least 0.
+    ///
+    /// # Errors
+    /// `NoMemory` where memory ran out.
     #[tactic(auto, using(crate::proofs::SimplifyCode::all_known))]
-    fn known(&self, alloc: Global, facts: &[Row]) -> Result<Facts, NoMemory>
+    pub fn known(&self, alloc: Global, facts: &[Row]) -> Result<Facts, NoMemory>
         ensures { IfOk result (λ f. f.rows.items ≡ facts.now ++ sure (conditions_of self.now)) }
     {
         let mut rows = Vec::new(alloc);
@@ -150,8 +153,11 @@ impl Conditions {
 }
 
 impl Formula {
-    // How many atoms the formula holds.
-    fn atom_count(&self) -> Result<usize, NoMemory>
+    /// How many atoms the formula holds.
+    ///
+    /// # Errors
+    /// `NoMemory` where there are more than a `usize` holds.
+    pub fn atom_count(&self) -> Result<usize, NoMemory>
         ensures { IfOk result (λ n. n ≡ atom_count (formula_tree self.now)) }
     {
         match self {
