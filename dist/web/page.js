@@ -1226,7 +1226,7 @@ const examples = [
   "lines": ""
  }
 ];
-const programSum = "7002d50950d45bdfaacf74ec8a5e84568ce62cbf736ae6b2e8b4ba42b2be2582";
+const programSum = "9dde9641dc30c354b886a3cf7f178dd5efaff010d9873472d3a36f90f6826d26";
 // What is read off the text of a program by its tokens.
 
 // The name that the program has for the page, and at home.
