@@ -5,7 +5,7 @@ use Rattle.cf_tree.specs.CodeTree.{CodeTree, code_lit, code_truth, code_var, cod
 use Rattle.cf_tree.specs.Meaning.{Path, got}
 use Rattle.cf_range.specs.Alike.{Alike, AnswersAlike}
 use Rattle.cf_range.specs.Ranges.{between}
-use Rattle.cf_range.specs.Tidied.{product, tidied, other_items, count_reached, reached}
+use Rattle.cf_range.specs.Tidied.{product, negation, nonzero, other_arms, tidied, other_items, count_reached, reached}
 
 abbrev at_peak : ℕ → ℕ → Path ℕ
 at_peak n peak = record { gives = got n; peak = peak }
@@ -54,9 +54,40 @@ product-other = refl
 product-no_literal : product x (code_lit (negsuc 0)) ≡ code_mul x (code_lit (negsuc 0))
 product-no_literal = refl
 
+product-negated : product (code_lit (pos 60)) (code_neg x) ≡ code_mul (code_lit (negsuc 59)) x
+product-negated = refl
+
+product-both_negative : product (code_lit (negsuc 1)) (code_neg x) ≡ code_mul (code_lit (pos 2)) x
+product-both_negative = refl
+
+product-minus_one_negated : product (code_lit (negsuc 0)) (code_neg x) ≡ code_sum (code_more x no_codes)
+product-minus_one_negated = refl
+
+product-by_zero : product (code_lit (pos 0)) (code_neg x) ≡ code_mul (code_lit (pos 0)) (code_neg x)
+product-by_zero = refl
+
+product-zero : product (code_lit (pos 60)) (code_lit (pos 0)) ≡ code_lit (pos 0)
+product-zero = refl
+
+negation-of_zero : negation (code_lit (pos 0)) ≡ code_lit (pos 0)
+negation-of_zero = refl
+
+negation-of_one : negation (code_lit (pos 1)) ≡ code_lit (negsuc 0)
+negation-of_one = refl
+
+nonzero-parts : nonzero (code_more (code_lit (pos 0)) (code_more x (code_more (code_lit (pos 1)) (code_more (code_lit (pos 0)) no_codes))))
+    ≡ code_more x (code_more (code_lit (pos 1)) no_codes)
+nonzero-parts = refl
+
+nonzero-none : tidied (code_sum (code_more (code_lit (pos 0)) no_codes)) ≡ code_lit (pos 0)
+nonzero-none = refl
+
+sum-of_numerals : tidied (code_sum (code_more (code_neg (code_lit (pos 3))) (code_more (code_lit (pos 0)) (code_more (code_lit (pos 5)) no_codes)))) ≡ code_lit (pos 2)
+sum-of_numerals = refl
+
 -- at each form, parts first
 tidied-inside : tidied (code_let 1 1 (code_div (minus x) (pos 4)) (code_sum (code_more (minus (minus x)) (code_more x no_codes))))
-    ≡ code_let 1 1 (code_div (code_neg x) (pos 4)) (code_sum (code_more (code_neg (code_neg x)) (code_more x no_codes)))
+    ≡ code_let 1 1 (code_div (code_neg x) (pos 4)) (code_sum (code_more (code_sum (code_more x no_codes)) (code_more x no_codes)))
 tidied-inside = refl
 
 other_items-true : other_items (item_more (need_item (code_truth true)) (item_more (let_item x) no_items)) ≡ item_more (let_item x) no_items
@@ -97,3 +128,16 @@ count_reached-second = refl
 
 tidied-reached : tidied (code_solve 1 (arm_more lets (arm_more searches no_arms))) ≡ code_solve 1 (arm_more lets no_arms)
 tidied-reached = refl
+
+-- one with a need that is false before all else never gives, and meets no number
+abbrev never : ArmTree
+never = arm_of [] (item_more (need_item (code_truth false)) (item_more (let_item x) no_items)) (code_more x no_codes)
+
+abbrev later : ArmTree
+later = arm_of [] (item_more (let_item x) (item_more (need_item (code_truth false)) no_items)) (code_more x no_codes)
+
+tidied-never : tidied (code_solve 1 (arm_more never (arm_more needs no_arms))) ≡ code_solve 1 (arm_more needs no_arms)
+tidied-never = refl
+
+other_arms-later : other_arms (arm_more later no_arms) ≡ arm_more later no_arms
+other_arms-later = refl

@@ -1,15 +1,43 @@
 -- What tidying makes of a code: each form by its row, parts first.
-use Rattle.std.specs.Prelude.{ℕ, ◌+◌, nat_eq, negsuc, Bool, true, false, not, ◌&&◌, length, if◌then◌else◌}
+use Rattle.std.specs.Prelude.{ℕ, ℤ, ◌+◌, ◌+ℤ◌, nat_eq, pos, negsuc, neg_ℤ, Bool, true, false, not, ◌&&◌, ◌||◌, Option, Some, None, [], length, if◌then◌else◌}
 use Rattle.std.specs.Ordering.{int_eq}
+use Rattle.cf_num.specs.Limit.{within}
+use Rattle.cf_range.specs.Ranges.{passes}
 use Rattle.cf_tree.specs.CodeTree.{CodeTree, code_lit, code_truth, code_var, code_set_of, code_tuple, code_sum, code_sub, code_mul, code_neg, code_div, code_mod, code_min, code_max, code_compare, code_divides, code_and, code_or, code_not, code_union, code_inter, code_diff, code_subset, code_card, code_slice, code_fresh, code_if, code_let, code_solve, CodeTrees, no_codes, code_more, ItemTree, let_item, need_item, ItemTrees, no_items, item_more, ArmTree, arm_of, ArmTrees, no_arms, arm_more}
 
 abbrev pub is_minus_one : CodeTree → Bool
 is_minus_one (code_lit k) = int_eq k (negsuc 0)
 is_minus_one c = false
 
+abbrev pub is_zero : CodeTree → Bool
+is_zero (code_lit k) = int_eq k (pos 0)
+is_zero c = false
+
+-- -(-b) as the sum of b alone, and the numeral of a negated one
+abbrev pub negation : CodeTree → CodeTree
+negation (code_neg b) = code_sum (code_more b no_codes)
+negation (code_lit k) = if passes k then code_neg (code_lit k) else code_lit (neg_ℤ k)
+negation c = code_neg c
+
+-- the number of the other sign; 0 has none, since a product with it hides what is past
+abbrev pub opposite : CodeTree → Option ℤ
+opposite (code_lit k) = if passes k || int_eq k (pos 0) then None else Some (neg_ℤ k)
+opposite c = None
+
+-- k * -b as -k * b, and k * 0 as 0
+abbrev pub times : CodeTree → Option ℤ → CodeTree → CodeTree
+times a None b = code_mul a b
+times a (Some k) (code_neg b) = code_mul (code_lit k) b
+times a (Some k) b = if is_zero b then b else code_mul a b
+
 -- -1 * b as -b
 abbrev pub product : CodeTree → CodeTree → CodeTree
-product a b = if is_minus_one a then code_neg b else code_mul a b
+product a b = if is_minus_one a then negation b else times a (opposite a) b
+
+-- the parts of a sum but those that are 0
+abbrev pub nonzero : CodeTrees → CodeTrees
+nonzero no_codes = no_codes
+nonzero (code_more c cs) = if is_zero c then nonzero cs else code_more c (nonzero cs)
 
 -- the item is `need true`
 abbrev pub always_holds : ItemTree → Bool
@@ -33,6 +61,45 @@ needs_nothing (item_more i is) = not (is_need i) && needs_nothing is
 abbrev pub always_gives : ArmTree → Bool
 always_gives (arm_of bounds is gs) = nat_eq (length bounds) 0 && needs_nothing is
 
+abbrev pub with_one_sign : CodeTree → CodeTree
+with_one_sign (code_neg a) = negation a
+with_one_sign c = c
+
+-- what numerals come to, where nothing on the way is past the limit
+abbrev pub plus_literal : ℤ → CodeTree → Option ℤ
+plus_literal z (code_lit k) = if passes k then None else within (z +ℤ k)
+plus_literal z c = None
+
+abbrev mutual
+  pub literals_sum : ℤ → CodeTrees → Option ℤ
+  literals_sum z no_codes = Some z
+  literals_sum z (code_more c cs) = literals_from (plus_literal z c) cs
+
+  pub literals_from : Option ℤ → CodeTrees → Option ℤ
+  literals_from None cs = None
+  literals_from (Some z) cs = literals_sum z cs
+
+-- a sum of numerals alone as one
+abbrev pub sum_or_literal : Option ℤ → CodeTrees → CodeTree
+sum_or_literal None cs = code_sum cs
+sum_or_literal (Some z) cs = code_lit z
+
+abbrev pub sum_without_zeros : CodeTrees → CodeTree
+sum_without_zeros cs = sum_or_literal (literals_sum (pos 0) cs) cs
+
+abbrev pub without_zeros : CodeTree → CodeTree
+without_zeros (code_sum cs) = sum_without_zeros (nonzero cs)
+without_zeros c = c
+
+-- whether an arm is left at once, and the others
+abbrev pub is_left : ArmTree → Bool
+is_left (arm_of [] (item_more (need_item (code_truth t)) is) gs) = not t
+is_left a = false
+
+abbrev pub other_arms : ArmTrees → ArmTrees
+other_arms no_arms = no_arms
+other_arms (arm_more a arms) = if is_left a then other_arms arms else arm_more a (other_arms arms)
+
 -- how many arms may be reached, and these: what stands behind one that always gives goes
 abbrev pub count_reached : ArmTrees → ℕ
 count_reached no_arms = 0
@@ -49,10 +116,10 @@ abbrev mutual
   tidied (code_var x) = code_var x
   tidied (code_set_of cs) = code_set_of (all_tidied cs)
   tidied (code_tuple cs) = code_tuple (all_tidied cs)
-  tidied (code_sum cs) = code_sum (all_tidied cs)
+  tidied (code_sum cs) = sum_without_zeros (nonzero (all_tidied cs))
   tidied (code_sub a b) = code_sub (tidied a) (tidied b)
   tidied (code_mul a b) = product (tidied a) (tidied b)
-  tidied (code_neg a) = code_neg (tidied a)
+  tidied (code_neg a) = negation (tidied a)
   tidied (code_div a k) = code_div (tidied a) k
   tidied (code_mod a k) = code_mod (tidied a) k
   tidied (code_min cs) = code_min (all_tidied cs)
@@ -71,7 +138,7 @@ abbrev mutual
   tidied (code_fresh a b) = code_fresh (tidied a) (tidied b)
   tidied (code_if a b c) = code_if (tidied a) (tidied b) (tidied c)
   tidied (code_let first count a b) = code_let first count (tidied a) (tidied b)
-  tidied (code_solve n arms) = code_solve n (reached (arms_tidied arms))
+  tidied (code_solve n arms) = code_solve n (reached (other_arms (arms_tidied arms)))
 
   pub all_tidied : CodeTrees → CodeTrees
   all_tidied no_codes = no_codes

@@ -1,11 +1,14 @@
 //! Tidying: other code with the same answers, which reads better.
-ghost use Rattle.std.specs.Prelude.{◌≡◌, IfOk, map};
+ghost use Rattle.std.specs.Prelude.{◌≡◌, IfOk, IfSome, map, pos};
+ghost use Rattle.cf_num.specs.Limit.{IsWithin};
 ghost use Rattle.cf_tree.specs.CodeView.{code_tree, code_trees, item_tree, arm_tree, item_trees, arm_trees};
+ghost use Rattle.cf_tree.specs.CodeTree.{code_sum, code_more, no_codes};
 ghost use Rattle.cf_range.specs.Alike.{AnswersAlike, KeepsTypes};
-ghost use Rattle.cf_range.specs.Tidied.{is_minus_one, product, tidied, all_tidied, item_tidied, items_tidied, arm_tidied, arms_tidied, always_holds, other_items, is_need, needs_nothing, always_gives, count_reached, reached};
+ghost use Rattle.cf_range.specs.Tidied.{is_minus_one, is_zero, literals_sum as the_literals_sum, negation, nonzero, opposite as the_opposite, plus_literal, product, with_one_sign, without_zeros, tidied, all_tidied, item_tidied, items_tidied, arm_tidied, arms_tidied, always_holds, other_items, is_need, needs_nothing, always_gives, count_reached, is_left, other_arms, reached};
 
-use crate::range::Range;
+use crate::range::{Range, number_passes};
 use crate::settle::settle;
+use cf_num::add;
 use cf_tree::{Arm, Code, Item, NoMemory, code_over_list, code_over_one, code_over_three};
 use std::alloc::Global;
 
@@ -42,15 +45,15 @@ fn tidy(alloc: Global, code: &Code) -> Result<Code, NoMemory>
         Code::Mul(a, b) => {
             let first = tidy_boxed(alloc, a)?;
             let second = tidy_boxed(alloc, b)?;
-            Ok(product(first, second))
+            product(alloc, first, second)
         }
         code_over_list!(parts) => {
             let parts = tidy_all(alloc, parts)?;
-            Ok(code.over_list(parts))
+            Ok(without_zeros(code.over_list(parts)))
         }
         code_over_one!(a) => {
             let part = tidy_boxed(alloc, a)?;
-            Ok(code.over_one(part))
+            with_one_sign(alloc, code.over_one(part))
         }
         Code::Sub(a, b)
         | Code::And(a, b)
@@ -80,6 +83,7 @@ fn tidy(alloc: Global, code: &Code) -> Result<Code, NoMemory>
         }
         Code::Solve { number, arms } => {
             let mut arms = tidy_arms(alloc, arms)?;
+            drop_left(&mut arms);
             drop_unreached(&mut arms);
             Ok(Code::Solve {
                 number: *number,
@@ -152,15 +156,131 @@ fn tidy_arms(alloc: Global, arms: &[Arm]) -> Result<Vec<Arm>, NoMemory>
     Ok(all)
 }
 
-// -1 * b as -b.
-fn product(a: Box<Code>, b: Box<Code>) -> Code
-    ensures { code_tree result ≡ product (code_tree a.value) (code_tree b.value) }
+// -1 * b as -b, k * -b as -k * b, and k * 0 as 0.
+fn product(alloc: Global, a: Box<Code>, b: Box<Code>) -> Result<Code, NoMemory>
+    ensures { IfOk result (λ new. code_tree new ≡ product (code_tree a.value) (code_tree b.value)) }
 {
     if is_minus_one(&a) {
         drop(a);
-        Code::Neg(b)
-    } else {
-        Code::Mul(a, b)
+        return negation(alloc, b);
+    }
+    let Some(k) = opposite(&a) else {
+        return Ok(Code::Mul(a, b));
+    };
+    match Box::into_inner(b) {
+        Code::Neg(part) => Ok(Code::Mul(Box::new(alloc, Code::Lit(k))?, part)),
+        other => if is_zero(&other) {
+            Ok(other)
+        } else {
+            Ok(Code::Mul(a, Box::new(alloc, other)?))
+        },
+    }
+}
+
+// The number of the other sign; 0 has none, since a product with it hides what is past.
+fn opposite(code: &Code) -> Option<i128>
+    ensures { result ≡ the_opposite (code_tree code.now) }
+{
+    match code {
+        Code::Lit(k) => if number_passes(*k) || *k == 0 {
+            None
+        } else {
+            Some(-*k)
+        },
+        _ => None,
+    }
+}
+
+// -(-b) as the sum of b alone, and the numeral of a negated one.
+fn negation(alloc: Global, part: Box<Code>) -> Result<Code, NoMemory>
+    ensures { IfOk result (λ new. code_tree new ≡ negation (code_tree part.value)) }
+{
+    match Box::into_inner(part) {
+        Code::Neg(inner) => alone(alloc, inner),
+        Code::Lit(k) => if number_passes(k) {
+            Ok(Code::Neg(Box::new(alloc, Code::Lit(k))?))
+        } else {
+            Ok(Code::Lit(-k))
+        },
+        other => Ok(Code::Neg(Box::new(alloc, other)?)),
+    }
+}
+
+// A code whose parts are tidied: a negation is made anew.
+fn with_one_sign(alloc: Global, code: Code) -> Result<Code, NoMemory>
+    ensures { IfOk result (λ new. code_tree new ≡ with_one_sign (code_tree code)) }
+{
+    match code {
+        Code::Neg(part) => negation(alloc, part),
+        other => Ok(other),
+    }
+}
+
+// The sum of one part alone.
+fn alone(alloc: Global, part: Box<Code>) -> Result<Code, NoMemory>
+    ensures { IfOk result (λ new. code_tree new ≡ code_sum (code_more (code_tree part.value) no_codes)) }
+{
+    let mut parts = Vec::new(alloc);
+    parts.push(Box::into_inner(part))?;
+    Ok(Code::Sum(parts))
+}
+
+// A code whose parts are tidied: a sum has no parts that are 0, and one of numerals alone is a numeral.
+fn without_zeros(code: Code) -> Code
+    ensures { code_tree result ≡ without_zeros (code_tree code) }
+{
+    match code {
+        Code::Sum(parts) => {
+            let mut parts = parts;
+            drop_zeros(&mut parts);
+            match literals_sum(&parts) {
+                Some(k) => Code::Lit(k),
+                None => Code::Sum(parts),
+            }
+        }
+        other => other,
+    }
+}
+
+// What numerals come to, where nothing on the way is past the limit.
+fn literals_sum(parts: &[Code]) -> Option<i128>
+    ensures { result ≡ the_literals_sum (pos 0) (code_trees parts.now) }
+{
+    let mut sum = 0;
+    for part in parts {
+        sum = plus_literal(sum, part)?;
+    }
+    Some(sum)
+}
+
+fn plus_literal(sum: i128, part: &Code) -> Option<i128>
+    requires { IsWithin sum }
+    ensures value { result ≡ plus_literal sum (code_tree part.now) }
+    ensures fits { IfSome result IsWithin }
+{
+    match part {
+        Code::Lit(k) => if number_passes(*k) {
+            None
+        } else {
+            add(sum, *k)
+        },
+        _ => None,
+    }
+}
+
+// The parts of a sum that are 0 go.
+fn drop_zeros(parts: &mut Vec<Code>)
+    ensures { code_trees parts.new.items ≡ nonzero (code_trees parts.old.items) }
+{
+    parts.retain(|part| !is_zero(part));
+}
+
+fn is_zero(code: &Code) -> bool
+    ensures { result ≡ is_zero (code_tree code.now) }
+{
+    match code {
+        Code::Lit(k) => *k == 0,
+        _ => false,
     }
 }
 
@@ -185,6 +305,26 @@ fn always_holds(item: &Item) -> bool
 {
     match item {
         Item::Need(Code::Truth(t)) => *t,
+        _ => false,
+    }
+}
+
+// An arm that is left at once goes.
+fn drop_left(arms: &mut Vec<Arm>)
+    ensures { arm_trees arms.new.items ≡ other_arms (arm_trees arms.old.items) }
+{
+    arms.retain(|arm| !is_left(arm));
+}
+
+fn is_left(arm: &Arm) -> bool
+    ensures { result ≡ is_left (arm_tree arm.now) }
+{
+    arm.bounds.len() == 0 && begins_with_false(&arm.items)
+}
+
+fn begins_with_false(items: &[Item]) -> bool {
+    match items.first() {
+        Some(Item::Need(Code::Truth(t))) => !*t,
         _ => false,
     }
 }
