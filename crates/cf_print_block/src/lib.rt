@@ -17,7 +17,7 @@ mod variables;
 
 pub use crate::draft::Draft;
 pub use crate::function::both;
-pub use crate::laws::parameters_differ;
+pub use crate::laws::{names_differ, parameters_differ};
 pub use crate::naming::{Role, names_for, pointers_for};
 pub use crate::place::{Giving, Place};
 pub use crate::printer::{Outputs, Printer};
