@@ -24,6 +24,7 @@ LIMITED = 'ulimit -v 2000000 && exec "$0" "$@"'
 HEAD = re.compile(rb"main \(([^)]*)\):")
 SETS = re.compile(rb"\b(?:set|union|inter|diff|subset|card|slice|fresh)\b|\{(?!\n)")
 WARNINGS = ("-std=c11", "-Wall", "-Wextra", "-Werror")
+RUSTC = ("rustc", "--edition", "2021", "-D", "warnings")
 
 
 @dataclass(frozen=True)
@@ -50,6 +51,7 @@ MAKERS = (
     compiler("gcc"),
     compiler("clang"),
     Maker(sys.executable, "python", "emitted.py", (), (sys.executable, "emitted.py"), (sys.executable, "-c", "from emitted import the_function")),
+    Maker("rustc", "rust", "emitted.rs", (*RUSTC, "emitted.rs"), ("./emitted",), (*RUSTC, "--crate-type", "lib", "emitted.rs")),
     Maker("node", "js", "emitted.mjs", (), ("node", "emitted.mjs"), ("node", "--input-type=module", "-e", 'import { the_function } from "./emitted.mjs"')),
 )
 

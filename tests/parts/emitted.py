@@ -1,7 +1,7 @@
 """What `emit` writes of the examples, and of the cases that `run` is done with.
 
 Its filter answers as `exec` does, byte for byte, on their lines and on others, near the limit and spoilt; and the file without one is taken. It is done with
-what is installed of gcc or clang, with all warnings as errors, this Python and Node. `trials/emitted` does the same with more.
+what is installed of gcc or clang and rustc, with all warnings as errors, this Python and Node. `trials/emitted` does the same with more.
 """
 
 from __future__ import annotations
@@ -20,7 +20,7 @@ from .cases import Case, standing
 LINES = 30
 LONGEST_INPUT = 1_048_576
 NO_MEMORY = 12
-LANGUAGES = ("c", "python", "js")
+LANGUAGES = ("c", "python", "js", "rust")
 
 
 def try_one(program: Program, room: Room) -> Checks:
@@ -48,8 +48,7 @@ def try_names(room: Room) -> Checks:
 
 def try_not_built(room: Room) -> Checks:
     room.put("file", examples.text_of(examples.source("clock")))
-    for language in "rust", "smt":
-        yield ended(f"emitted, {language}", room.run(("emit", language, "file"), NO_INPUT), NO_MEMORY, err=b"no memory\n")
+    yield ended("emitted, smt", room.run(("emit", "smt", "file"), NO_INPUT), NO_MEMORY, err=b"no memory\n")
 
 
 def skipped(language: str, _: Room) -> Checks:

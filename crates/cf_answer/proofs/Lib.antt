@@ -12,6 +12,8 @@ mod CertificateExamples
 pub mod CertificateLemmas
 mod CheckExamples
 pub mod CheckLemmas
+pub mod ClaimLemmas
+pub mod ClaimedLemmas
 mod CommandExamples
 pub mod CountLemmas
 pub mod CoverageLemmas

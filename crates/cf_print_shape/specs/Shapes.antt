@@ -22,6 +22,15 @@ abbrev pub is_leave : Block → Bool
 is_leave leave = true
 is_leave b = false
 
+abbrev pub is_code : Block → Bool
+is_code (give c) = true
+is_code b = false
+
+-- all that it declares stands within one `if`, behind which the arm is left
+abbrev pub is_if : Block → Bool
+is_if (test t a b) = is_code t && is_leave b
+is_if b = false
+
 -- what a block comes to that only leaves: no solution, or what leaving the arm comes to
 abbrev pub exit_of : Exit → Block → Option Exit
 exit_of e (none n) = Some (Ends n)

@@ -1,7 +1,7 @@
 //! What a block comes to, as its form shows.
 ghost use Rattle.std.specs.Prelude.{◌≡◌};
 ghost use Rattle.cf_stmt.specs.BlockView.{block_tree};
-ghost use Rattle.cf_print_shape.specs.Shapes.{can_fall as falls, exit_of as the_exit_of, gives as gives_values, is_leave as leaves, is_none as none_at, is_plain as plain, is_straight as straight, leaves_at_ends as at_ends, number_of as the_number_of};
+ghost use Rattle.cf_print_shape.specs.Shapes.{can_fall as falls, exit_of as the_exit_of, gives as gives_values, is_code as is_a_code, is_if as is_an_if, is_leave as leaves, is_none as none_at, is_plain as plain, is_straight as straight, leaves_at_ends as at_ends, number_of as the_number_of};
 
 use crate::exit::Exit;
 use cf_stmt::Block;
@@ -51,6 +51,38 @@ pub fn is_leave(block: &Block) -> bool
         | Block::Part(_, _)
         | Block::Join(_, _)
         | Block::Test { .. }
+        | Block::Arm { .. } => false,
+    }
+}
+
+// Whether the block gives the values of a code at once.
+fn is_code(block: &Block) -> bool
+    ensures { result ≡ is_a_code (block_tree block.now) }
+{
+    match block {
+        Block::Give(_) => true,
+        Block::Stop(_)
+        | Block::Leave
+        | Block::Bind(_, _)
+        | Block::Part(_, _)
+        | Block::Join(_, _)
+        | Block::Test { .. }
+        | Block::Arm { .. } => false,
+    }
+}
+
+/// Whether all that the block declares stands within one `if`, behind which it leaves the arm.
+pub fn is_if(block: &Block) -> bool
+    ensures { result ≡ is_an_if (block_tree block.now) }
+{
+    match block {
+        Block::Test { test, no, .. } => is_code(test) && is_leave(no),
+        Block::Give(_)
+        | Block::Stop(_)
+        | Block::Leave
+        | Block::Bind(_, _)
+        | Block::Part(_, _)
+        | Block::Join(_, _)
         | Block::Arm { .. } => false,
     }
 }

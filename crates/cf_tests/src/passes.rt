@@ -269,7 +269,7 @@ const EMIT_CASES: [Case; 4] = [
     Case {
         status: Status::NoMemory,
         call: Call {
-            operand: "rust",
+            operand: "smt",
             ..EMIT
         },
         ..UNCALLED

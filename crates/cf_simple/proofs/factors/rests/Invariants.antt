@@ -1,0 +1,8 @@
+use Rattle.std.proofs.Common.{◌≡◌, ◌++◌, drop}
+use Rattle.cf_simple.specs.LineView.{part_trees}
+use Rattle.cf_simple.specs.Quotients.{rests}
+use Rattle.cf_simple.proofs.factors.rests.Given as goal
+
+abbrev pub invariant-loop-p : goal.invariant-loop-p
+invariant-loop-p l =
+    part_trees l.all.items ++ rests l.k (part_trees (drop l.p-index l.parts)) ≡ rests l.k (part_trees l.parts)
