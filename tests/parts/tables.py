@@ -11,7 +11,8 @@
 In a table whose name begins with `refused` a row is COMMANDS, STATUS, WRITTEN, PROGRAM: with what commands refuse a program of the name `p.cf`. They are
 `every` command on a source; all `but run`, which takes products with inputs; all `but verify`, which does not look into a choose; or `run` alone.
 In a table whose name begins with `steps` a row is STATUS, WRITTEN, STEPS, PROGRAM: what `verify` writes of the steps.
-In a table whose name begins with `verdicts` a row is VERDICTS, PROGRAM: how each line that `check` writes of a program begins, without samples.
+In a table whose name begins with `verdicts` a row is VERDICTS, PROGRAM: how each line that `check` writes of a program begins, without samples. In `verdicts`
+the places of lines are left out, too.
 In a table whose name begins with `strict` a row is STRICT, UNIQUE, PROGRAM: what `check --strict` and `check --strict --unique` find in a program, which is
 `yes`, or how many answers are not, as `2 no` or `1 undecided`; they write what `check` writes.
 In a table whose name begins with `words` a row has a status and the words of a command line, each in a column: none is `-`. The files `source`,
@@ -41,6 +42,7 @@ NOT_LINEAR = 8
 STRICT = {b"no": 14, b"undecided": 15}
 INPUT_LONG = b"11"
 TALLIES = b"# fold 0\n# drop-needs 0\n# drop-arms 0\n# drop-lets 0\n"
+PLACE = re.compile(rb"^file:[0-9]+:[0-9]+: ")
 OTHER_COMMANDS = ("compile", "file"), ("emit", "python", "file"), ("pre", "file"), ("check", "file"), ("prove", "file"), ("verify", "file", "missing")
 ON_A_SOURCE = "compile", "emit", "pre", "check", "prove", "verify", "run"
 REFUSING = {b"every": ON_A_SOURCE, b"but run": ON_A_SOURCE[:-1], b"but verify": (*ON_A_SOURCE[:-2], "run"), b"run": ("run",)}
@@ -97,11 +99,18 @@ def try_written(row: Row, room: Room) -> Iterator[Check]:
         yield try_verified(name, "file", text, room)
 
 
+def verdict_in(line: bytes) -> bytes:
+    """A line of `check` without its sample, its outputs or its limit."""
+    return re.sub(rb"( for (?!no inputs|any inputs)|(?<=two outputs): |(?<=undecided): ).*", b"", line)
+
+
 def try_verdicts(row: Row, room: Room) -> Iterator[Check]:
     verdicts, program = row.texts
     room.put("file", program)
     seen = room.run(("check", "file"), NO_INPUT)
-    lines = [re.sub(rb"( for |: (?!no |two |outputs |existence |uniqueness |covers |misses |coverage )).*", b"", line) for line in seen.out.splitlines()]
+    lines = [verdict_in(line) for line in seen.out.splitlines()]
+    if row.table == "verdicts":
+        lines = [PLACE.sub(b"", line) for line in lines]
     faults = () if seen.status == 0 and lines == verdicts.splitlines() else (f"status {seen.status}, wrote {seen.out!r} {seen.err!r}",)
     yield Check(row.name(row.columns[-1]), faults)
 

@@ -70,8 +70,7 @@ module _ (form : ReplyForm) (written : Form) (name other source steps : List ℕ
   of-pre = (λ h. h, λ h. h)
 
   of-check : Same (Owes (check strictness.Told name) (source ∷ []) given last ls text)
-      ((a : Answered) × ((told : List ToldChoose) × AreToldOf source told × (typed : TypedTree) × IsTypedSource source typed
-      × AreChecks (edition_of source) told typed text a))
+      ((a : Answered) × AreSourceChecks name source text a)
   of-check = (λ h. h, λ h. h)
 
   -- a strict check owes the same text
@@ -81,7 +80,7 @@ module _ (form : ReplyForm) (written : Form) (name other source steps : List ℕ
 
   -- and ends by what its lines answer; any other command is done
   judged-check : (answer : Result (Unit {0}) Fault) → Same (Judges (check strictness.Unique name) (source ∷ []) text answer)
-      ((a : Answered) × AreSourceChecks source text a × (answer ≡ judged strictness.Unique a))
+      ((a : Answered) × AreSourceChecks name source text a × (answer ≡ judged strictness.Unique a))
   judged-check answer = (λ h. h, λ h. h)
 
   judged-pre : (answer : Result (Unit {0}) Fault) → Same (Judges (pre name) (source ∷ []) text answer) (answer ≡ Ok tt)

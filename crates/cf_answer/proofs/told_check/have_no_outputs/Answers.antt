@@ -1,0 +1,12 @@
+use Rattle.std.proofs.Common.{map}
+use Rattle.cf_form.specs.ToldView.{told_branch}
+use Rattle.cf_answer.specs.Checking.{asked_view}
+use Rattle.cf_answer.proofs.BesideLemmas.{never_more, never_nothing}
+use Rattle.cf_answer.proofs.told_check.have_no_outputs.Goals as goal
+
+pub loop-branch-preserved : goal.loop-branch-preserved
+loop-branch-preserved c =
+    λ more. c.loop-branch.invariant (never_more (asked_view c.args.asked.now) _ _ (c.in_ok-never.ensures c.if-not-never.false) more)
+
+pub returns : goal.returns
+returns c = λ e. c.loop-branch.invariant (never_nothing (asked_view c.args.asked.now))
