@@ -14,7 +14,7 @@ _comfusy() {
       pre | prove) mapfile -t COMPREPLY < <(compgen -W '-' -- "$word") ;;
     esac
   elif [ "$command" = emit ] && [ "$COMP_CWORD" = 2 ]; then
-    mapfile -t COMPREPLY < <(compgen -W 'c python js' -- "$word")
+    mapfile -t COMPREPLY < <(compgen -W 'c python js rust smt' -- "$word")
   elif [ "$command" != gen ]; then
     [ "$command" != exec ] || kind=target
     [[ $command != verify || $COMP_CWORD = 2 ]] || kind=steps

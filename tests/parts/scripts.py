@@ -16,7 +16,7 @@ from .quoted import lay, try_commands
 
 PAGE = ROOT / "docs/GUIDE.md"
 SCRIPT = re.compile(r"^```sh\n(?P<text>.*?)^```$.*?^\$ sh (?P<name>\S+)", re.DOTALL | re.MULTILINE)
-FILE = re.compile(r"`(?P<name>[\w-]+\.(?:py|mjs|c))`[^`]*\n\n```(?:python|js|c)\n(?P<text>.*?)^```$", re.DOTALL | re.MULTILINE)
+FILE = re.compile(r"`(?P<name>[\w-]+\.(?:py|mjs|c|rs))`[^`]*\n\n```(?:python|js|c|rust)\n(?P<text>.*?)^```$", re.DOTALL | re.MULTILINE)
 WRITING = re.compile(r"^\$ .* > \S+$", re.MULTILINE)
 
 

@@ -2,7 +2,7 @@
 use Rattle.std.proofs.Common.{◌≡◌, inl, inr, ℕ, Bool, true, false, List, [], ◌∷◌, refl, arith, codes}
 use Rattle.cf_pass.specs.Passes.{Told}
 use Rattle.cf_print.specs.declared.language.Language.TheVariants.{C, Python}
-use Rattle.cf_words.specs.Commands.{Emitting, compile, run, pre, check, exec, prove, emit, verify, gen, help, version}
+use Rattle.cf_words.specs.Commands.{Emitting, compile, run, pre, check, exec, prove, emit, goals, verify, gen, help, version}
 use Rattle.cf_words.specs.declared.command.Flags.{Flags}
 use Rattle.cf_words.specs.declared.command.ReplyForm.{ReplyForm}
 use Rattle.cf_words.specs.declared.command.Strictness.TheVariants as strictness
@@ -39,6 +39,9 @@ one-name = (refl, refl, refl, refl, refl, refl)
 name-of_emit : (names_of (emit in_c a) ≡ a ∷ []) × (names_of (emit in_python a) ≡ a ∷ [])
 name-of_emit = (refl, refl)
 
+name-of_goals : names_of (goals a) ≡ a ∷ []
+name-of_goals = refl
+
 two-names : names_of (verify a b) ≡ a ∷ b ∷ []
 two-names = refl
 
@@ -57,6 +60,9 @@ unread-by = (refl, refl, refl, refl, refl, refl, refl, refl)
 unread-by_emit : (reads_input (emit in_c a) ≡ false) × (reads_input (emit in_python a) ≡ false)
 unread-by_emit = (refl, refl)
 
+unread-by_goals : reads_input (goals a) ≡ false
+unread-by_goals = refl
+
 exec-is_given_it : input_for (exec form a) (codes "1\n") ≡ codes "1\n"
 exec-is_given_it = refl
 
@@ -66,6 +72,9 @@ called-by = (refl, refl, refl)
 
 called-by_emit : (calls_passes (emit in_c a) ≡ true) × (tells_tallies (emit in_c a) ≡ false)
 called-by_emit = (refl, refl)
+
+uncalled-by_goals : (calls_passes (goals a) ≡ false) × (tells_tallies (goals a) ≡ false)
+uncalled-by_goals = (refl, refl)
 
 uncalled-by : (calls_passes (compile (flags true false) a) ≡ false) × (calls_passes (run (flags true false) form a) ≡ false) × (calls_passes (pre a) ≡ false)
     × (calls_passes (check strictness.Told a) ≡ false) × (calls_passes (exec form a) ≡ false) × (calls_passes (prove a) ≡ false) ×

@@ -21,7 +21,7 @@ use Rattle.cf_shift.specs.Meeting.{AreSmall}
 use Rattle.cf_stmt.specs.Blocks.{Block, give, none}
 use Rattle.cf_stmt.specs.Runs.{gives, overflows, runs}
 use Rattle.cf_print.specs.declared.language.Language.{Language}
-use Rattle.cf_print.specs.declared.language.Language.TheVariants.{C, Python, JavaScript}
+use Rattle.cf_print.specs.declared.language.Language.TheVariants.{C, Python, JavaScript, Rust}
 use Rattle.cf_print_program.specs.Printed.{IsPrint}
 use Rattle.cf_words.specs.Commands.{Emitting, emit}
 use Rattle.cf_answer.specs.Emitting.{AnswersAs, CompilesIn, IsEmitted, lacks_sets, main_has_sets, printing, target_run}
@@ -150,8 +150,10 @@ set-elsewhere = refl
 lacking-in_c : lacks_sets C (program Set (expr_lit (pos 1))) ≡ true
 lacking-in_c = refl
 
-there-elsewhere : (lacks_sets Python (program Set (expr_lit (pos 1))) ≡ false) × (lacks_sets JavaScript (program Set (expr_lit (pos 1))) ≡ false)
-there-elsewhere = (refl, refl)
+there-elsewhere :
+    (lacks_sets Python (program Set (expr_lit (pos 1))) ≡ false) × (lacks_sets JavaScript (program Set (expr_lit (pos 1))) ≡ false) ×
+    (lacks_sets Rust (program Set (expr_lit (pos 1))) ≡ false)
+there-elsewhere = (refl, refl, refl)
 
 -- ---- refusals
 module _ (items : List RawItemTree) (typed : TypedTree) (is : IsTypedBy Two Plain items typed) (f : Fault) where

@@ -140,7 +140,7 @@ source_refused language text f (inl h) = inl (caused_too (of_source (edition_of 
 source_refused language text f (inr memory) = inr memory
 
 -- a program without a form in the language is not refused otherwise
-not_otherwise : (edition : Edition) (program : List RawItemTree) (typed : TypedTree) → IsTypedBy edition Plain program typed →
+pub not_otherwise : (edition : Edition) (program : List RawItemTree) (typed : TypedTree) → IsTypedBy edition Plain program typed →
     first_refused (by_number (all_chooses typed.defs)) ≡ None → (f : Fault) → IsBadProgram edition program f → ⊥
 not_otherwise edition program typed is none f (unruly e h) = typed_never_broken edition Plain program typed f is h
 not_otherwise edition program typed is none f (refused other n r h b) =

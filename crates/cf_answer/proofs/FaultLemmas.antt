@@ -14,9 +14,9 @@ use Rattle.cf_form.specs.declared.fault.FormFault.{FormFault}
 use Rattle.cf_form.specs.declared.fault.FormFault.TheVariants as form
 use Rattle.cf_target.specs.Spelling.{TargetTree}
 use Rattle.cf_print.specs.declared.language.Language.{Language}
-use Rattle.cf_words.specs.Commands.{Command, compile, run, pre, check, exec, prove, emit, verify, gen}
+use Rattle.cf_words.specs.Commands.{Command, compile, run, pre, check, exec, prove, emit, goals, verify, gen}
 use Rattle.cf_answer.specs.Limits.{TextKind}
-use Rattle.cf_answer.specs.Refusals.{Causes, too_long, odd_byte, large_number, no_tree, bad_tree, IsBroken, broken, wide, form_fault, IsBadProgram, unruly, refused, IsBadRun, bad, broken_late, IsBadEmission, bad_program, no_sets, IsBadTarget, untyped, IsRefusedSource, IsRefusedRun, IsRefusedEmission, IsRefusedTarget, IsUnverified, bad_source, bad_steps, bad_blocks, Refuses}
+use Rattle.cf_answer.specs.Refusals.{Causes, too_long, odd_byte, large_number, no_tree, bad_tree, IsBroken, broken, wide, form_fault, IsBadProgram, unruly, refused, IsBadRun, bad, broken_late, IsBadEmission, IsBadClaims, bad_claims, sets_claimed, bad_program, no_sets, IsBadTarget, untyped, IsRefusedSource, IsRefusedRun, IsRefusedEmission, IsRefusedClaims, IsRefusedTarget, IsUnverified, bad_source, bad_steps, bad_blocks, Refuses}
 use Rattle.cf_answer.specs.declared.fault.Fault.{Fault}
 use Rattle.cf_answer.specs.declared.fault.Fault.TheVariants as fault
 
@@ -34,6 +34,7 @@ IsTextFault (fault.Choose n r) = Unit {0}
 IsTextFault (fault.Weight f w) = Unit {0}
 IsTextFault (fault.Depth f d) = Unit {0}
 IsTextFault fault.NoSetsInC = Unit {0}
+IsTextFault fault.NoSetsInSmt = Unit {0}
 IsTextFault fault.BadTarget = Unit {0}
 IsTextFault (fault.Steps e) = Unit {0}
 IsTextFault (fault.Rejected n i j w) = Unit {0}
@@ -70,6 +71,10 @@ emission_fault : (language : Language) (edition : Edition) (program : List RawIt
 emission_fault language edition program f (bad_program g b) = program_fault edition program g b
 emission_fault language edition program f (no_sets typed is none lacks) = tt
 
+claims_fault : (edition : Edition) (program : List RawItemTree) (f : Fault) → IsBadClaims edition program f → IsTextFault f
+claims_fault edition program f (bad_claims g b) = program_fault edition program g b
+claims_fault edition program f (sets_claimed typed is none sets) = tt
+
 target_fault : (t : TargetTree) (f : Fault) → IsBadTarget t f → IsTextFault f
 target_fault t f (untyped h) = tt
 
@@ -81,6 +86,9 @@ run_text text f h = caused _ _ _ _ (run_fault (edition_of text)) text f h
 
 emission_text : (language : Language) (text : List ℕ) (f : Fault) → IsRefusedEmission language text f → IsTextFault f
 emission_text language text f h = caused _ _ _ _ (emission_fault language (edition_of text)) text f h
+
+claims_text : (text : List ℕ) (f : Fault) → IsRefusedClaims text f → IsTextFault f
+claims_text text f h = caused _ _ _ _ (claims_fault (edition_of text)) text f h
 
 target_text : (text : List ℕ) (f : Fault) → IsRefusedTarget text f → IsTextFault f
 target_text text f h = caused _ _ _ _ target_fault text f h
@@ -98,6 +106,7 @@ refused_fault (check strictness name) (text ∷ []) f h = source_text text f h
 refused_fault (exec form name) (text ∷ []) f h = target_text text f h
 refused_fault (prove name) (text ∷ []) f h = source_text text f h
 refused_fault (emit e name) (text ∷ []) f h = emission_text e.language text f h
+refused_fault (goals name) (text ∷ []) f h = claims_text text f h
 refused_fault (verify name other) (source ∷ steps ∷ []) f h = verify_fault source steps f h
 refused_fault (gen n) [] f h = source_text (gen_source n) f h
 refused_fault c files f h = absurd h

@@ -12,6 +12,9 @@ mod CertificateExamples
 pub mod CertificateLemmas
 mod CheckExamples
 pub mod CheckLemmas
+mod ClaimExamples
+pub mod ClaimLemmas
+pub mod ClaimedLemmas
 mod CommandExamples
 pub mod CountLemmas
 pub mod CoverageLemmas

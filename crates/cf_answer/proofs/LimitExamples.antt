@@ -1,7 +1,7 @@
 -- The limit of a source text as a number.
 use Rattle.std.proofs.Common.{◌≡◌, true, false, Some, None, codes, refl}
 use Rattle.cf_print.specs.declared.language.Language.TheVariants.{C}
-use Rattle.cf_words.specs.Commands.{Emitting, compile, run, pre, exec, prove, emit, verify}
+use Rattle.cf_words.specs.Commands.{Emitting, compile, run, pre, exec, prove, emit, goals, verify}
 use Rattle.cf_words.specs.declared.command.Flags.{Flags}
 use Rattle.cf_words.specs.declared.command.ReplyForm.{ReplyForm}
 use Rattle.cf_tree.specs.declared.base.Edition.TheVariants.{Two, Three}
@@ -46,6 +46,9 @@ written-by_command = (refl, refl, refl, refl, refl)
 
 limits-of_emit : (output_most (emit in_c (codes "a")) Three ≡ None) × (text_most (emit in_c (codes "a")) Three ≡ text_limit)
 limits-of_emit = (refl, refl)
+
+limits-of_goals : (output_most (goals (codes "a")) Three ≡ None) × (text_most (goals (codes "a")) Three ≡ text_limit)
+limits-of_goals = (refl, refl)
 
 taken-by_command : (text_most (run plain form (codes "a")) Three ≡ text_limit) × (text_most (exec form (codes "a")) Two ≡ written_limit)
     × (text_most (verify (codes "a") (codes "b")) Two ≡ text_limit) × (text_most (verify (codes "a") (codes "b")) Three ≡ written_limit)

@@ -3,7 +3,7 @@ use Rattle.std.proofs.Common.{◌≡◌, ℕ, not, List, [], ◌∷◌}
 use Rattle.cf_gen.specs.Workload.{gen_source}
 use Rattle.cf_pass.specs.Passes.{Told}
 use Rattle.cf_target.specs.Spelling.{target_tree}
-use Rattle.cf_words.specs.Commands.{Command, compile, run, pre, check, exec, prove, emit, verify, gen, help, version}
+use Rattle.cf_words.specs.Commands.{Command, compile, run, pre, check, exec, prove, emit, goals, verify, gen, help, version}
 use Rattle.cf_answer.specs.Forms.{form_of}
 use Rattle.cf_answer.specs.Owed.{Owes}
 use Rattle.cf_answer.specs.Passes.{applied}
@@ -11,6 +11,7 @@ use Rattle.cf_answer.specs.Refusals.{Refuses, IsAccepted}
 use Rattle.cf_answer.specs.Statuses.{fault_status}
 use Rattle.cf_answer.specs.declared.fault.Fault.{Fault}
 use Rattle.cf_answer.proofs.CertificateLemmas.{verify_alike, verify_unrefused, proofs_unrefused}
+use Rattle.cf_answer.proofs.ClaimLemmas.{claims_alike, claims_unrefused}
 use Rattle.cf_answer.proofs.EmitLemmas.{emissions_alike, emission_unrefused}
 use Rattle.cf_answer.proofs.RunLemmas.{runs_alike, run_unrefused}
 use Rattle.cf_answer.proofs.SourceLemmas.{sources_alike, compiled_unrefused, pres_unrefused, checks_unrefused}
@@ -26,6 +27,7 @@ refused_alike (check strictness name) (text ∷ []) f g h i = sources_alike text
 refused_alike (exec form name) (text ∷ []) f g h i = targets_alike text f g h i
 refused_alike (prove name) (text ∷ []) f g h i = sources_alike text f g h i
 refused_alike (emit e name) (text ∷ []) f g h i = emissions_alike e.language text f g h i
+refused_alike (goals name) (text ∷ []) f g h i = claims_alike text f g h i
 refused_alike (verify name other) (source ∷ steps ∷ []) f g h i = verify_alike source steps f g h i
 refused_alike (gen n) [] f g h i = sources_alike (gen_source n) f g h i
 refused_alike command files f g h i = absurd h
@@ -43,6 +45,7 @@ owed_accepted (check strictness name) (file ∷ []) given passes ls text h = λ 
 owed_accepted (exec form name) (file ∷ []) given passes ls text h = λ f r. typed_unrefused file (target_tree h.0) f h.1 r
 owed_accepted (prove name) (file ∷ []) given passes ls text h = λ f r. proofs_unrefused file h.0 text f h.1 h.2 r
 owed_accepted (emit e name) (file ∷ []) given passes ls text h = λ f r. emission_unrefused e.language file given passes h.0 h.1 f r
+owed_accepted (goals name) (file ∷ []) given passes ls text h = λ f r. claims_unrefused file h.0 text f h.1 h.2 r
 owed_accepted (verify name other) (source ∷ steps ∷ []) given passes ls text h = λ f r. verify_unrefused source steps h.0 f h.1 h.2 r
 owed_accepted (gen n) [] given passes ls text h = λ f r. compiled_unrefused given passes (gen_source n) h.0 f h.1.0 r
 owed_accepted help [] given passes ls text h = λ f r. r

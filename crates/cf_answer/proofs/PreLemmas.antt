@@ -19,7 +19,7 @@ use Rattle.cf_answer.specs.Branches.{valued}
 use Rattle.cf_answer.specs.Owed.{IsPreOf}
 
 -- the arms of a solved choose are those of the definition
-found_arms : (q : ChooseTree) (s : SolvedParts) → IsOf q.scope q.outputs q.relation s → arm_trees s.arms.items ≡ choose_arms q
+pub found_arms : (q : ChooseTree) (s : SolvedParts) → IsOf q.scope q.outputs q.relation s → arm_trees s.arms.items ≡ choose_arms q
 found_arms q s h =
     let same : arms s.scope.items s.outputs.items (rel_tree s.rel) ≡ arms q.scope q.outputs q.relation =
     rw (h.same_scope, h.same_outputs, h.same_relation) refl in

@@ -4,7 +4,7 @@ use Rattle.std.specs.Prelude.{IfOk, Ok, Err}
 use Rattle.cf_tree.specs.declared.base.Edition.TheVariants.{Two}
 use Rattle.cf_words.specs.Commands.{command_on}
 use Rattle.cf_words.specs.declared.command.CommandKind.{CommandKind}
-use Rattle.cf_words.specs.declared.command.CommandKind.TheVariants.{Compile, Run, Pre, Check, Exec, Prove, Emit}
+use Rattle.cf_words.specs.declared.command.CommandKind.TheVariants.{Compile, Run, Pre, Check, Exec, Prove, Emit, Goals}
 use Rattle.cf_words.specs.declared.command.Flags.{Flags}
 use Rattle.cf_words.specs.declared.command.ReplyForm.{ReplyForm}
 use Rattle.cf_answer.specs.Commands.{text_most}
@@ -30,6 +30,7 @@ small_file (Check strictness) flags form file n h = omega (arith, h)
 small_file Exec flags form file n h = omega (arith, h)
 small_file Prove flags form file n h = omega (arith, h)
 small_file (Emit e) flags form file n h = omega (arith, h)
+small_file Goals flags form file n h = omega (arith, h)
 
 -- what holds of a message holds of it where it was made
 pub when_made : {A E : Type 0} (P Q : A → Type 0) (made : Result A E) → ((m : A) → P m → Q m) → IfOk made P → IfOk made Q

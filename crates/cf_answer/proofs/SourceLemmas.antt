@@ -98,6 +98,13 @@ within_unrefused text typed f s within h =
     typed_unrefused text typed f s
     (λ q m. All-contains IsWithin (by_number qs) q within (Contains-permutation qs (by_number qs) q (ordered_same qs) m)) h
 
+pub within_never_bad : (edition : Edition) (program : List RawItemTree) (typed : TypedTree) → IsTypedBy edition Plain program typed →
+    All IsWithin (by_number (all_chooses typed.defs)) → (f : Fault) → IsBadProgram edition program f → ⊥
+within_never_bad edition program typed is within f b =
+    let qs = all_chooses typed.defs in
+    never_bad edition program typed is
+    (λ q m. All-contains IsWithin (by_number qs) q within (Contains-permutation qs (by_number qs) q (ordered_same qs) m)) f b
+
 module _ {Q : Type 0} (plain : Q → ChooseTree) (Is : Q → List ℕ → Type 0) (within : (c : Q) (text : List ℕ) → Is c text → IsWithin (plain c)) where
   written_within : (cs : List Q) (text : List ℕ) → AllWritten Is cs text → All IsWithin (map plain cs)
   written_within [] text h = All-nil IsWithin

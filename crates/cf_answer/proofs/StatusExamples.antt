@@ -40,8 +40,8 @@ rules : (number_of (fault.Rule (rule.UnknownName place)) ≡ 7) × (number_of (f
     × (number_of (fault.Rule (rule.NotConstant place)) ≡ 7) × (number_of (fault.Rule (rule.ConstantBelow place)) ≡ 7)
     × (number_of (fault.Rule (rule.ConstantPast place)) ≡ 7)
     × (number_of (fault.Rule (rule.CallsLater place)) ≡ 7) × (number_of (fault.Rule rule.NoMain) ≡ 7)
-    × (number_of fault.NoSetsInC ≡ 7) × (number_of fault.BadTarget ≡ 7)
-rules = (refl, refl, refl, refl, refl, refl, refl, refl, refl, refl, refl)
+    × (number_of fault.NoSetsInC ≡ 7) × (number_of fault.NoSetsInSmt ≡ 7) × (number_of fault.BadTarget ≡ 7)
+rules = (refl, refl, refl, refl, refl, refl, refl, refl, refl, refl, refl, refl)
 
 not-linear : number_of (fault.Rule (rule.NotLinear place)) ≡ 8
 not-linear = refl

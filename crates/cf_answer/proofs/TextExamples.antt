@@ -30,9 +30,11 @@ outside : map fault_line (fault.File ∷ fault.Input ∷ fault.Output ∷ fault.
     ∷ codes "no memory\n" ∷ []
 outside = refl
 
-texts : map fault_line (fault.TextTooLong ∷ fault.BadByte place ∷ fault.NumberPast place ∷ fault.Syntax place ∷ fault.NoSetsInC ∷ fault.BadTarget ∷ []) ≡
+texts : map fault_line (fault.TextTooLong ∷ fault.BadByte place ∷ fault.NumberPast place ∷ fault.Syntax place ∷ fault.NoSetsInC ∷ fault.NoSetsInSmt
+    ∷ fault.BadTarget ∷ []) ≡
     codes "text too long\n" ∷ codes "line 3 column 14: bad byte\n" ∷ codes "line 3 column 14: number past limit\n"
-    ∷ codes "line 3 column 14: syntax\n" ∷ codes "no sets in c\n" ∷ codes "target not well typed\n" ∷ []
+    ∷ codes "line 3 column 14: syntax\n" ∷ codes "no sets in c\n" ∷ codes "no sets in smt\n"
+    ∷ codes "target not well typed\n" ∷ []
 unfolding digits
 texts = refl
 

@@ -18,7 +18,7 @@ use Rattle.cf_help.specs.Faults.{words}
 use Rattle.cf_help.specs.Messages.{message, rule_message, syntax_words}
 use Rattle.cf_help.specs.Numbers.{function_place, number_place}
 use Rattle.cf_print.specs.declared.language.Language.TheVariants.{C}
-use Rattle.cf_words.specs.Commands.{Emitting, compile, run, pre, check, exec, prove, emit, verify, gen, help, version}
+use Rattle.cf_words.specs.Commands.{Emitting, compile, run, pre, check, exec, prove, emit, goals, verify, gen, help, version}
 use Rattle.cf_words.specs.declared.command.Flags.{Flags}
 use Rattle.cf_words.specs.declared.command.ReplyForm.{ReplyForm}
 use Rattle.cf_words.specs.declared.command.Strictness.TheVariants as strictness
@@ -56,6 +56,9 @@ sources = (refl, refl, refl, refl, refl, refl)
 
 source-of_emit : (source_of (emit in_c name) ≡ Some name) × (linearity_of (emit in_c name) ≡ Plain)
 source-of_emit = (refl, refl)
+
+source-of_goals : (source_of (goals name) ≡ Some name) × (linearity_of (goals name) ≡ Plain)
+source-of_goals = (refl, refl)
 
 no-sources : (source_of (exec form name) ≡ None) × (source_of (gen 7) ≡ None) × (source_of help ≡ None) × (source_of version ≡ None)
 no-sources = (refl, refl, refl, refl)
@@ -119,8 +122,8 @@ unfolding digits
 said-of_answers = (refl, refl)
 
 -- no part of the text is at fault where a language has no sets
-said-of_sets : IsSaid Plain name in_three fault.NoSetsInC (codes "no sets in c\n")
-said-of_sets = refl
+said-of_sets : IsSaid Plain name in_three fault.NoSetsInC (codes "no sets in c\n") × IsSaid Plain name in_three fault.NoSetsInSmt (codes "no sets in smt\n")
+said-of_sets = (refl, refl)
 
 said-of_steps : IsSaid Plain name in_three (fault.Steps (Syntax (at 3 4))) (codes "steps line 3 column 4: syntax\n")
 unfolding digits

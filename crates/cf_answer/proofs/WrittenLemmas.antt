@@ -13,7 +13,7 @@ use Rattle.cf_answer.specs.Owed.{AllWritten, IsPreOf, ArePres}
 use Rattle.cf_answer.proofs.BranchLemmas.{IsSplit, next, split_first, split_next, split_last}
 
 -- the choose at a place is solved by the one there
-solved_at : (qs : List ChooseTree) (ss : List SolvedChoose) (i : ℕ) (d : ChooseTree) (e : SolvedChoose) → AreSolved qs ss → i < length ss →
+pub solved_at : (qs : List ChooseTree) (ss : List SolvedChoose) (i : ℕ) (d : ChooseTree) (e : SolvedChoose) → AreSolved qs ss → i < length ss →
     (i < length qs) × IsSolved (get_or qs i d) (get_or ss i e)
 solved_at [] [] i d e h lt = absurd (omega (arith, lt))
 solved_at [] (s ∷ ss) i d e h lt = absurd h
@@ -22,14 +22,14 @@ solved_at (q ∷ qs) (s ∷ ss) zero d e h lt = (omega arith, h.0)
 solved_at (q ∷ qs) (s ∷ ss) (suc i) d e h lt =
     let more = solved_at qs ss i d e h.1 (omega (arith, lt)) in (omega (arith, more.0), more.1)
 
-as_many_solved : (qs : List ChooseTree) (ss : List SolvedChoose) → AreSolved qs ss → length qs ≡ length ss
+pub as_many_solved : (qs : List ChooseTree) (ss : List SolvedChoose) → AreSolved qs ss → length qs ≡ length ss
 as_many_solved [] [] h = refl
 as_many_solved [] (s ∷ ss) h = absurd h
 as_many_solved (q ∷ qs) [] h = absurd h
 as_many_solved (q ∷ qs) (s ∷ ss) h = ap suc (as_many_solved qs ss h.1)
 
 -- any choose
-abbrev no_choose : ChooseTree
+abbrev pub no_choose : ChooseTree
 no_choose = record { number = 0; names = []; scope = []; outputs = []; relation = rel_true }
 
 -- one more

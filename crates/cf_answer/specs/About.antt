@@ -16,7 +16,7 @@ help_text = concat (
     codes "  check FILE [--strict [--unique]]                write whether there always are outputs, and one only\n" ∷
     codes "  exec FILE [--key] [--jsonl]                     answer the lines of the input by a target\n" ∷
     codes "  prove FILE                                      write the steps by which each choose was solved\n" ∷
-    codes "  emit LANG FILE [--main] [--name NAME]           write the program as a file of c, python or js\n" ∷
+    codes "  emit LANG FILE [--main] [--name NAME]           write the program as a file of c, python, js, rust or smt\n" ∷
     codes "  verify FILE STEPS                               check such steps\n" ∷
     codes "  gen N                                           run a generated workload\n" ∷
     codes "  --help, -h                                      write this\n" ∷

@@ -2,7 +2,7 @@
 use Rattle.std.specs.Prelude.{ℕ, Bool, true, false, not, List, [], ◌∷◌, Option, None}
 use Rattle.cf_answer.specs.Limits.{text_limit, written_limit, written_most, of_target, most_of}
 use Rattle.cf_tree.specs.declared.base.Edition.{Edition}
-use Rattle.cf_words.specs.Commands.{Command, compile, run, pre, check, exec, prove, emit, verify, gen, help, version}
+use Rattle.cf_words.specs.Commands.{Command, compile, run, pre, check, exec, prove, emit, goals, verify, gen, help, version}
 
 -- the names of the files that it reads, in order
 abbrev pub names_of : Command → List (List ℕ)
@@ -13,6 +13,7 @@ names_of (check strictness file) = file ∷ []
 names_of (exec form file) = file ∷ []
 names_of (prove file) = file ∷ []
 names_of (emit e file) = file ∷ []
+names_of (goals file) = file ∷ []
 names_of (verify file steps) = file ∷ steps ∷ []
 names_of (gen n) = []
 names_of help = []

@@ -4,6 +4,7 @@ pub mod Branches
 pub mod Certificates
 pub mod Checking
 pub mod Checks
+pub mod Claims
 pub mod Commands
 pub mod Emitting
 pub mod Ends

@@ -1,6 +1,6 @@
 -- What a command is to write, in all.
-use Rattle.std.specs.Prelude.{◌≡◌, ℕ, ◌*◌, ℤ, pos, ◌+ℤ◌, Bool, true, not, List, [], ◌∷◌, ◌++◌, length, flat_map, None, codes, decimal, Result, Ok}
-use Rattle.std.specs.List.{concat}
+use Rattle.std.specs.Prelude.{◌≡◌, ℕ, ◌*◌, ℤ, pos, ◌+ℤ◌, Bool, true, not, List, [], ◌∷◌, ◌++◌, All, length, map, flat_map, None, codes, decimal, Result, Ok}
+use Rattle.std.specs.List.{concat, list_all}
 use Rattle.std.specs.Fmt.{signed_decimal}
 use Rattle.cf_gen.specs.Workload.{gen_source, gen_lines}
 use Rattle.cf_io.specs.Lines.{lines}
@@ -21,13 +21,15 @@ use Rattle.cf_emit.specs.Printed.{target_text, pre_text}
 use Rattle.cf_emit.specs.ReadsBack.{ReadsBack}
 use Rattle.cf_late.specs.ChooseRun.{LateOutcome, solve_run}
 use Rattle.cf_pass.specs.Passes.{Told, HaveTurned}
-use Rattle.cf_words.specs.Commands.{Command, compile, run, pre, check, exec, prove, emit, verify, gen, help, version}
+use Rattle.cf_smt.specs.Heads.{head_text}
+use Rattle.cf_words.specs.Commands.{Command, compile, run, pre, check, exec, prove, emit, goals, verify, gen, help, version}
 use Rattle.cf_words.specs.declared.command.ReplyForm.{ReplyForm}
 use Rattle.cf_answer.specs.About.{help_text, version_text}
 use Rattle.cf_form.specs.Branches.{Branch}
 use Rattle.cf_answer.specs.Branches.{AreBranched, valued}
 use Rattle.cf_answer.specs.Certificates.{AreProofs, AreVerified, verified_line}
 use Rattle.cf_answer.specs.Checks.{AreChecksBehind}
+use Rattle.cf_answer.specs.Claims.{AreClaimed, choose_has_form, with_branches}
 use Rattle.cf_answer.specs.Emitting.{CompilesIn, IsEmitted}
 use Rattle.cf_answer.specs.Forms.{Wording, as_text, Form, form_of, InForm}
 use Rattle.cf_answer.specs.LateReplies.{main_comes, AreRunsAllowed}
@@ -118,6 +120,14 @@ AllWritten Is (q ∷ qs) text = (first : List ℕ) × (more : List ℕ) × (text
 abbrev pub ArePres : List (ChooseTree × Branch) → List ℕ → Type 0
 ArePres cs text = AllWritten (λ c. IsPreOf c.0 c.1) cs text
 
+-- chooses pass no limit, no set stands in one or in its arms, and this is the top of a file of this source, and what is claimed of them, in order
+pub record AreGoals (source : List ℕ) (cs : List (ChooseTree × Branch)) (text : List ℕ) : Type 0 where
+  pub within : All (λ q. limit_of q ≡ None) (map (λ c. c.0) cs)
+  pub have_forms : list_all choose_has_form (map (λ c. c.0) cs) ≡ true
+  pub more : List ℕ
+  pub is : text ≡ head_text source ++ more
+  pub are : AreClaimed (with_branches 0 0 (map (λ c. c.0) cs)) more
+
 -- the lines of its chooses, of which this is told, and of its matches, in the order of their numbers, which are at least 1, and what they answer
 abbrev pub AreChecks : Edition → List ToldChoose → TypedTree → List ℕ → Answered → Type 0
 AreChecks edition told typed text a = AreChecksBehind edition (all_matches typed.defs) told 0 (by_number (all_chooses typed.defs)) text a
@@ -151,6 +161,7 @@ Owes (exec asked name) (file ∷ []) given last ls text =
 Owes (prove name) (file ∷ []) given last ls text = (cs : List (ChooseTree × Branch)) × AreBranched file cs × AreProofs (edition_of file) cs text
 Owes (emit e name) (file ∷ []) given last ls text =
     (t : RawTarget) × CompilesIn e.language given last file t × HaveTurned given last × IsEmitted e file t text
+Owes (goals name) (file ∷ []) given last ls text = (cs : List (ChooseTree × Branch)) × AreBranched file cs × AreGoals file cs text
 Owes (verify name steps_name) (source ∷ steps ∷ []) given last ls text =
     (cs : List (ChooseTree × Branch)) × AreBranched source cs × AreVerified (edition_of source) cs steps
     × (text ≡ flat_map (λ c. verified_line c.0) cs)

@@ -1,5 +1,5 @@
 -- Why the text of a file is refused.
-use Rattle.std.specs.Prelude.{◌≡◌, ℕ, ◌<◌, true, List, [], ◌∷◌, length, None, Ok, Err}
+use Rattle.std.specs.Prelude.{◌≡◌, ℕ, ◌<◌, true, false, List, [], ◌∷◌, length, None, Ok, Err}
 use Rattle.cf_gen.specs.Workload.{gen_source}
 use Rattle.cf_lex.specs.declared.token.Token.{Token}
 use Rattle.cf_lex.specs.Editions.{edition_of}
@@ -35,8 +35,9 @@ use Rattle.cf_form.specs.Branches.{Branch}
 use Rattle.cf_cert.specs.declared.verdict.Verdict.TheVariants.{Rejected}
 use Rattle.cf_cert.specs.declared.verdict.Why.{Why}
 use Rattle.cf_print.specs.declared.language.Language.{Language}
-use Rattle.cf_words.specs.Commands.{Command, compile, run, pre, check, exec, prove, emit, verify, gen}
+use Rattle.cf_words.specs.Commands.{Command, compile, run, pre, check, exec, prove, emit, goals, verify, gen}
 use Rattle.cf_answer.specs.Branches.{AreBranched, IsVerdictIn}
+use Rattle.cf_answer.specs.Claims.{all_have_forms}
 use Rattle.cf_answer.specs.Emitting.{lacks_sets}
 use Rattle.cf_answer.specs.Limits.{TextKind, of_source, of_target, most_of}
 use Rattle.cf_answer.specs.Sources.{HasTokens, Spelled, IsTypedBy, IsTypedSource, IsTypedTree}
@@ -97,6 +98,12 @@ pub data IsBadEmission (language : Language) (edition : Edition) (program : List
   no_sets : (typed : TypedTree) → IsTypedBy edition Plain program typed → first_refused (by_number (all_chooses typed.defs)) ≡ None →
       lacks_sets language typed ≡ true → IsBadEmission language edition program fault.NoSetsInC
 
+-- for which faults `emit smt` refuses it: as a program, or where no choose is refused and a set stands in one or in its arms
+pub data IsBadClaims (edition : Edition) (program : List RawItemTree) : Fault → Type 0 where
+  bad_claims : (f : Fault) → IsBadProgram edition program f → IsBadClaims edition program f
+  sets_claimed : (typed : TypedTree) → IsTypedBy edition Plain program typed → first_refused (by_number (all_chooses typed.defs)) ≡ None →
+      all_have_forms typed ≡ false → IsBadClaims edition program fault.NoSetsInSmt
+
 -- for which fault a target is refused
 pub data IsBadTarget (t : TargetTree) : Fault → Type 0 where
   untyped : (IsTypedTree t → ⊥) → IsBadTarget t fault.BadTarget
@@ -105,7 +112,7 @@ pub data IsBadTarget (t : TargetTree) : Fault → Type 0 where
 abbrev pub CausesOf : (Edition → List RawItemTree → Fault → Type 0) → List ℕ → Fault → Type 0
 CausesOf Bad text f = Causes (of_source (edition_of text)) (IsProgram (edition_of text)) (program_of (edition_of text) 200) (Bad (edition_of text)) text f
 
--- the fault for which the text of a source is refused, also by `run` and by `emit`, and that of a target
+-- the fault for which the text of a source is refused, also by `run`, by `emit` and by `emit smt`, and that of a target
 abbrev pub IsRefusedSource : List ℕ → Fault → Type 0
 IsRefusedSource text f = CausesOf IsBadProgram text f
 
@@ -114,6 +121,9 @@ IsRefusedRun text f = CausesOf IsBadRun text f
 
 abbrev pub IsRefusedEmission : Language → List ℕ → Fault → Type 0
 IsRefusedEmission language text f = CausesOf (IsBadEmission language) text f
+
+abbrev pub IsRefusedClaims : List ℕ → Fault → Type 0
+IsRefusedClaims text f = CausesOf IsBadClaims text f
 
 abbrev pub IsRefusedTarget : List ℕ → Fault → Type 0
 IsRefusedTarget text f = Causes (of_target (edition_of text)) (IsTarget (edition_of text)) (target_of (edition_of text) 500) IsBadTarget text f
@@ -151,6 +161,7 @@ Refuses (check strictness name) (text ∷ []) f = IsRefusedSource text f
 Refuses (exec form name) (text ∷ []) f = IsRefusedTarget text f
 Refuses (prove name) (text ∷ []) f = IsRefusedSource text f
 Refuses (emit e name) (text ∷ []) f = IsRefusedEmission e.language text f
+Refuses (goals name) (text ∷ []) f = IsRefusedClaims text f
 Refuses (verify name steps_name) (source ∷ steps ∷ []) f = IsUnverified source steps f
 Refuses (gen n) [] f = IsRefusedSource (gen_source n) f
 Refuses command files f = ⊥

@@ -58,6 +58,7 @@ fault_status (fault.Choose n r) = refusal_status r
 fault_status (fault.Weight f w) = Limit
 fault_status (fault.Depth f d) = Limit
 fault_status fault.NoSetsInC = Types
+fault_status fault.NoSetsInSmt = Types
 fault_status fault.BadTarget = Types
 fault_status (fault.Steps e) = Text
 fault_status (fault.Rejected n i j w) = Rejected

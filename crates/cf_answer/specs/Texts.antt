@@ -102,6 +102,7 @@ fault_line (fault.Choose n r) = choose_line n r
 fault_line (fault.Weight f w) = count_line (codes "Weight") w
 fault_line (fault.Depth f d) = count_line (codes "Depth") d
 fault_line fault.NoSetsInC = words_line (codes "no sets in c")
+fault_line fault.NoSetsInSmt = words_line (codes "no sets in smt")
 fault_line fault.BadTarget = words_line (codes "target not well typed")
 fault_line (fault.Steps e) = steps_line e
 fault_line (fault.Rejected n i j w) = rejected_line n i j w

@@ -14,7 +14,7 @@ use Rattle.cf_linear.specs.Reasons.{refusal_text}
 use Rattle.cf_help.specs.Faults.{count_words}
 use Rattle.cf_help.specs.Messages.{message, bad_byte_words, choose_words, past_limit_words, rule_message, syntax_words, too_long_words}
 use Rattle.cf_help.specs.Numbers.{function_place, number_place}
-use Rattle.cf_words.specs.Commands.{Command, compile, run, pre, check, prove, emit, verify}
+use Rattle.cf_words.specs.Commands.{Command, compile, run, pre, check, prove, emit, goals, verify}
 use Rattle.cf_answer.specs.Commands.{names_of}
 use Rattle.cf_answer.specs.Limits.{text_limit, of_source}
 use Rattle.cf_answer.specs.Outside.{AreTold}
@@ -32,6 +32,7 @@ source_of (pre file) = Some file
 source_of (check strictness file) = Some file
 source_of (prove file) = Some file
 source_of (emit e file) = Some file
+source_of (goals file) = Some file
 source_of (verify file steps) = Some file
 source_of command = None
 

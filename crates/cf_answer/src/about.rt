@@ -19,7 +19,7 @@ const HELP: &[u8] = b"usage: comfusy COMMAND ..\n\
 \x20 check FILE [--strict [--unique]]                write whether there always are outputs, and one only\n\
 \x20 exec FILE [--key] [--jsonl]                     answer the lines of the input by a target\n\
 \x20 prove FILE                                      write the steps by which each choose was solved\n\
-\x20 emit LANG FILE [--main] [--name NAME]           write the program as a file of c, python or js\n\
+\x20 emit LANG FILE [--main] [--name NAME]           write the program as a file of c, python, js, rust or smt\n\
 \x20 verify FILE STEPS                               check such steps\n\
 \x20 gen N                                           run a generated workload\n\
 \x20 --help, -h                                      write this\n\

@@ -104,7 +104,8 @@ impl Ended {
             | CommandKind::Pre
             | CommandKind::Check(_)
             | CommandKind::Prove
-            | CommandKind::Emit(_) => Ended::on_source(alloc, &source, answer),
+            | CommandKind::Emit(_)
+            | CommandKind::Goals => Ended::on_source(alloc, &source, answer),
         }
     }
 
@@ -152,7 +153,8 @@ fn linearity_of(kind: CommandKind<'_>) -> Linearity
         | CommandKind::Check(_)
         | CommandKind::Exec
         | CommandKind::Prove
-        | CommandKind::Emit(_) => Linearity::Plain,
+        | CommandKind::Emit(_)
+        | CommandKind::Goals => Linearity::Plain,
     }
 }
 

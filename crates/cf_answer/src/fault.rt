@@ -45,6 +45,8 @@ pub enum Fault {
     },
     /// A set stands in the program, and it is to be written in C.
     NoSetsInC,
+    /// A set stands in a choose or in its arms, and these are to be written for solvers.
+    NoSetsInSmt,
     /// The target that the file spells is not well typed.
     BadTarget,
     /// The text of the steps file is refused.

@@ -14,6 +14,7 @@ mod ended;
 mod exec;
 mod fault;
 mod generate;
+mod goals;
 mod input;
 mod key;
 mod late;
@@ -51,6 +52,7 @@ pub use ended::Ended;
 pub use exec::{read_target, run_target, target_replier};
 pub use fault::{Fault, StepsFault};
 pub use generate::write_workload;
+pub use goals::write_goals;
 pub use laws::{
     compiled_is_run, gen_is_accepted, needs_are_checked, proved_is_verified, sums_are_of_quotients,
 };

@@ -54,6 +54,7 @@ pub(crate) fn said(
         Fault::Usage
         | Fault::File
         | Fault::NoSetsInC
+        | Fault::NoSetsInSmt
         | Fault::BadTarget
         | Fault::Steps(_)
         | Fault::Rejected { .. }

@@ -109,6 +109,7 @@ fn fault_status(fault: &Fault) -> Status
         Fault::Weight { .. } => Status::Limit,
         Fault::Depth { .. } => Status::Limit,
         Fault::NoSetsInC => Status::Types,
+        Fault::NoSetsInSmt => Status::Types,
         Fault::BadTarget => Status::Types,
         Fault::Steps(_) => Status::Text,
         Fault::Rejected { .. } => Status::Rejected,

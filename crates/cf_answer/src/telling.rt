@@ -139,6 +139,7 @@ fn fault_line(fault: &Fault) -> Line<'static>
         Fault::Weight { weight, .. } => weight_line(*weight),
         Fault::Depth { depth, .. } => depth_line(*depth),
         Fault::NoSetsInC => Line::Words(b"no sets in c".as_slice()),
+        Fault::NoSetsInSmt => Line::Words(b"no sets in smt".as_slice()),
         Fault::BadTarget => Line::Words(b"target not well typed".as_slice()),
         Fault::Steps(fault) => steps_line(fault),
         Fault::Rejected {

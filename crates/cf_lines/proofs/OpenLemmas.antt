@@ -10,7 +10,7 @@ use Rattle.cf_tree.specs.declared.target.RawTarget.{RawTarget}
 use Rattle.cf_pass.specs.Passes.{Told}
 use Rattle.cf_words.specs.Commands.{Command, command_on, run, exec, file_command}
 use Rattle.cf_words.specs.declared.command.CommandKind.{CommandKind}
-use Rattle.cf_words.specs.declared.command.CommandKind.TheVariants.{Compile, Run, Pre, Check, Exec, Prove, Emit}
+use Rattle.cf_words.specs.declared.command.CommandKind.TheVariants.{Compile, Run, Pre, Check, Exec, Prove, Emit, Goals}
 use Rattle.cf_words.specs.declared.command.FileCommand.{FileCommand}
 use Rattle.cf_words.specs.declared.command.Flags.{Flags}
 use Rattle.cf_words.specs.declared.command.ReplyForm.{ReplyForm}
@@ -76,6 +76,7 @@ long_refused (Check strictness) flags form name text h = too_long h
 long_refused Exec flags form name text h = too_long (past_its_own (edition_for (text ∷ [])) (length text) h)
 long_refused Prove flags form name text h = too_long h
 long_refused (Emit e) flags form name text h = too_long h
+long_refused Goals flags form name text h = too_long h
 
 -- a command on a file reads that one
 one_name : (kind : CommandKind) (flags : Flags) (form : ReplyForm) (name : List ℕ) → names_of (command_on kind flags form name) ≡ name ∷ []
@@ -86,6 +87,7 @@ one_name (Check strictness) flags form name = refl
 one_name Exec flags form name = refl
 one_name Prove flags form name = refl
 one_name (Emit e) flags form name = refl
+one_name Goals flags form name = refl
 
 one_text : (c : FileCommand) (texts : List ℕ → Option (List ℕ)) (text : List ℕ) → AreTold (texts c.file.now) text →
     AreTexts texts (names_of (file_command c)) (text ∷ [])

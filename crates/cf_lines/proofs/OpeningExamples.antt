@@ -1,7 +1,7 @@
 -- Which commands answer lines, and what an opened program owes, worked out.
 use Rattle.std.proofs.Common.{◌≡◌, refl, ℕ, true, false, List, [], ◌∷◌, codes}
 use Rattle.std.specs.Prelude.{Some, None}
-use Rattle.cf_words.specs.Commands.{Emitting, compile, run, pre, check, exec, prove, emit, verify, gen, help, version}
+use Rattle.cf_words.specs.Commands.{Emitting, compile, run, pre, check, exec, prove, emit, goals, verify, gen, help, version}
 use Rattle.cf_words.specs.declared.command.Flags.{Flags}
 use Rattle.cf_words.specs.declared.command.ReplyForm.{ReplyForm}
 use Rattle.cf_words.specs.declared.command.Strictness.TheVariants as strictness
@@ -50,6 +50,9 @@ prove_does_not = refl
 
 emit_does_not : (e : Emitting) → answers_lines (emit e (codes "f")) ≡ false
 emit_does_not e = refl
+
+goals_do_not : answers_lines (goals (codes "f")) ≡ false
+goals_do_not = refl
 
 verify_does_not : answers_lines (verify (codes "f") (codes "s")) ≡ false
 verify_does_not = refl

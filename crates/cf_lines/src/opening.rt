@@ -76,7 +76,8 @@ fn answers_lines(kind: CommandKind<'_>, flags: Flags) -> bool
         | CommandKind::Pre
         | CommandKind::Check(_)
         | CommandKind::Prove
-        | CommandKind::Emit(_) => false,
+        | CommandKind::Emit(_)
+        | CommandKind::Goals => false,
     }
 }
 
@@ -111,7 +112,8 @@ fn longest_of(kind: CommandKind<'_>) -> usize
         | CommandKind::Pre
         | CommandKind::Check(_)
         | CommandKind::Prove
-        | CommandKind::Emit(_) => longest_text(),
+        | CommandKind::Emit(_)
+        | CommandKind::Goals => longest_text(),
     }
 }
 
@@ -154,7 +156,8 @@ fn read(
         | CommandKind::Pre
         | CommandKind::Check(_)
         | CommandKind::Prove
-        | CommandKind::Emit(_) => { unreachable!() }
+        | CommandKind::Emit(_)
+        | CommandKind::Goals => { unreachable!() }
     }
 }
 

@@ -2,7 +2,7 @@
 use Rattle.std.specs.Prelude.{ℕ, ◌≡◌, List, [], ◌∷◌, ◌++◌, Option, None, codes, refl}
 use Rattle.cf_print.specs.Sources.{source_lines, head_of}
 use Rattle.cf_print.specs.declared.language.Language.{Language}
-use Rattle.cf_print.specs.declared.language.Language.TheVariants.{C, Python, JavaScript}
+use Rattle.cf_print.specs.declared.language.Language.TheVariants.{C, Python, JavaScript, Rust}
 
 abbrev lines : Language → List ℕ → List ℕ
 lines l source = source_lines l None source
@@ -19,6 +19,16 @@ js_lines = refl
 
 js_head : head_of JavaScript (codes "ab\n") ≡ codes "// Written by Comfusy from this source; each change belongs there.\n//\n//     ab\n"
 js_head = refl
+
+rust_lines : lines Rust (codes "ab\n\nc") ≡ codes "//     ab\n//\n//     c\n"
+rust_lines = refl
+
+rust_head : head_of Rust (codes "ab\n") ≡ codes "// Written by Comfusy from this source; each change belongs there.\n//\n//     ab\n" ++ codes
+    "\n#![forbid(unsafe_code)]\n#![allow(non_snake_case, unused_variables)]\n"
+rust_head = refl
+
+quotes_in_rust : lines Rust (codes "\"\\ */") ≡ codes "//     \"\\ */\n"
+quotes_in_rust = refl
 
 -- ---- bytes that are shown otherwise
 tab : lines Python (codes "a\tb") ≡ codes "    a b\n"

@@ -4,7 +4,7 @@ use Rattle.std.specs.Fmt.{digits}
 use Rattle.cf_tree.specs.declared.base.Base.TheVariants.{Int}
 use Rattle.cf_print.specs.Names.{new_name, may_name, is_name}
 use Rattle.cf_print.specs.Words.{words_of}
-use Rattle.cf_print.specs.declared.language.Language.TheVariants.{C, Python}
+use Rattle.cf_print.specs.declared.language.Language.TheVariants.{C, Python, Rust}
 
 abbrev name_in_python : List (List ℕ) → Option (List ℕ) → List ℕ
 name_in_python taken wish = new_name (words_of Python) taken Int wish
@@ -41,8 +41,20 @@ name = refl
 begins_with_digit : is_name (codes "2h") ≡ false
 begins_with_digit = refl
 
+free : name_in_python [] (Some (codes "total")) ≡ codes "total"
+free = refl
+
+sums : may_name (words_of C) (codes "sum_of") ≡ false
+sums = refl
+
 helper : may_name (words_of Python) (codes "fit") ≡ false
 helper = refl
 
 of_the_compiler : may_name (words_of C) (codes "__int128") ≡ false
 of_the_compiler = refl
+
+helper_of_rust : may_name (words_of Rust) (codes "fit") ≡ false
+helper_of_rust = refl
+
+word_of_rust : may_name (words_of Rust) (codes "match") ≡ false
+word_of_rust = refl

@@ -1,7 +1,7 @@
 -- The source as a comment at the top of a file, which it cannot leave in any language.
 use Rattle.std.specs.Prelude.{ℕ, Bool, ◌&&◌, ◌||◌, List, [], ◌∷◌, ◌++◌, codes, nat_eq, nat_le, nat_lt, if◌then◌else◌, Option, Some, None}
 use Rattle.cf_print.specs.declared.language.Language.{Language}
-use Rattle.cf_print.specs.declared.language.Language.TheVariants.{C, Python, JavaScript}
+use Rattle.cf_print.specs.declared.language.Language.TheVariants.{C, Python, JavaScript, Rust}
 
 -- a byte as it is shown: a tab as a blank, and one that is not printable as a question mark
 abbrev pub shown : ℕ → ℕ
@@ -16,6 +16,7 @@ abbrev pub shown_behind : Language → ℕ → ℕ → List ℕ
 shown_behind Python last x = if nat_eq x 34 || nat_eq x 92 then 92 ∷ x ∷ [] else x ∷ []
 shown_behind C last x = if is_kept_apart last x then 32 ∷ x ∷ [] else x ∷ []
 shown_behind JavaScript last x = x ∷ []
+shown_behind Rust last x = x ∷ []
 
 -- before a line of the source, and in place of one that is empty
 abbrev pub before_source : Language → List ℕ
@@ -65,12 +66,13 @@ title = codes "Written by Comfusy from this source; each change belongs there.\n
 abbrev pub before_head : Language → List ℕ
 before_head Python = codes "\"\"\"" ++ title ++ codes "\n"
 before_head C = codes "/*\n * " ++ title ++ codes " *\n"
-before_head JavaScript = codes "// " ++ title ++ codes "//\n"
+before_head l = codes "// " ++ title ++ codes "//\n"
 
 abbrev pub behind_head : Language → List ℕ
 behind_head Python = codes "\"\"\"\n\nfrom __future__ import annotations\n"
 behind_head C = codes " */\n\n"
 behind_head JavaScript = []
+behind_head Rust = codes "\n#![forbid(unsafe_code)]\n#![allow(non_snake_case, unused_variables)]\n"
 
 abbrev pub head_of : Language → List ℕ → List ℕ
 head_of l source = before_head l ++ source_lines l None source ++ behind_head l

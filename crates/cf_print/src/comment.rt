@@ -59,7 +59,7 @@ fn put_behind(out: &mut Vec<u8>, language: Language, last: u8, byte: u8) -> Resu
         } else {
             put_one(out, byte)
         },
-        Language::JavaScript => put_one(out, byte),
+        Language::JavaScript | Language::Rust => put_one(out, byte),
     }
 }
 
@@ -69,7 +69,7 @@ fn before_source(language: Language) -> &'static [u8]
     match language {
         Language::Python => b"    ",
         Language::C => b" *     ",
-        Language::JavaScript => b"//     ",
+        Language::JavaScript | Language::Rust => b"//     ",
     }
 }
 
@@ -79,7 +79,7 @@ fn before_nothing(language: Language) -> &'static [u8]
     match language {
         Language::Python => b"",
         Language::C => b" *",
-        Language::JavaScript => b"//",
+        Language::JavaScript | Language::Rust => b"//",
     }
 }
 

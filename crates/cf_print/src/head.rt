@@ -16,7 +16,7 @@ fn before_head(language: Language) -> &'static [u8]
             b"\"\"\"Written by Comfusy from this source; each change belongs there.\n\n",
         Language::C =>
             b"/*\n * Written by Comfusy from this source; each change belongs there.\n *\n",
-        Language::JavaScript =>
+        Language::JavaScript | Language::Rust =>
             b"// Written by Comfusy from this source; each change belongs there.\n//\n",
     }
 }
@@ -28,6 +28,8 @@ fn behind_head(language: Language) -> &'static [u8]
         Language::Python => b"\"\"\"\n\nfrom __future__ import annotations\n",
         Language::C => b" */\n\n",
         Language::JavaScript => b"",
+        Language::Rust =>
+            b"\n#![forbid(unsafe_code)]\n#![allow(non_snake_case, unused_variables)]\n",
     }
 }
 

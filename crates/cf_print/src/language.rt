@@ -6,4 +6,5 @@ pub enum Language {
     C,
     Python,
     JavaScript,
+    Rust,
 }

@@ -20,4 +20,4 @@ pub use crate::names::{is_numbered, may_name, new_name};
 pub use crate::pieces::{
     copies, joined_text, put_joined, put_pieces, put_repeated, text_of_pieces,
 };
-pub use crate::words::{C_WORDS, JAVASCRIPT_WORDS, PYTHON_WORDS, words_of};
+pub use crate::words::{C_WORDS, JAVASCRIPT_WORDS, PYTHON_WORDS, RUST_WORDS, words_of};

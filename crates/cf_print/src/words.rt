@@ -9,7 +9,7 @@ pub const PYTHON_WORDS: &[u8] = b" \
     Exception False Iterable LINE MAX NoSolution None OverflowError True TypeError and annotations as assert async \
     await bool break case class continue cut def del elif else except finally fit for fresh from frozenset global if \
     import in int is isinstance lambda len line main map match max min none nonlocal not numbers or outcome pass print \
-    raise range re read reply return set sorted spelled str super sys total truth try tuple type values while whole \
+    raise range re read reply return set sorted spelled str sum_of super sys truth try tuple type values while whole \
     with written yield ";
 
 /// The words of C, and of printed C.
@@ -26,7 +26,7 @@ pub const C_WORDS: &[u8] = b" \
     end enum errno extern false float for free from_halves fwrite getline goto greatest i386 if index inline int \
     int64_t j0 j1 jn least linux long main memcmp mod_up mul nullptr ok out_bytes out_value outcome past put \
     put_number put_text read_number read_truth register reply restrict return short signed size_t sizeof ssize_t \
-    static static_assert stderr stdin stdout struct sub switch thread_local time total true typedef typeof uint64_t \
+    static static_assert stderr stdin stdout struct sub sum_of switch thread_local time true typedef typeof uint64_t \
     union unix unsigned used void volatile while white whole y0 y1 yn ";
 
 /// The words of JavaScript, and of printed JavaScript.
@@ -35,8 +35,16 @@ pub const JAVASCRIPT_WORDS: &[u8] = b" \
     await break card case catch class const continue cut debugger default delete diff div do else enum eval export \
     extends false finally fit for fresh from function get globalThis greatest if implements import in instanceof inter \
     interface least let line main mod new null numbers of package private process protected public read reply return \
-    rising same set set_of spelled static subset super switch text this throw total true truth try typeof undefined \
+    rising same set set_of spelled static subset sum_of super switch text this throw true truth try typeof undefined \
     union values var void while whole with written yield ";
+
+/// The words of Rust, and of printed Rust.
+pub const RUST_WORDS: &[u8] = b" \
+    BTreeSet Borrow ComfusyError Err None Ok Option Result Self Some String Value Vec abstract add alloc as async \
+    await become bool box break card const continue core crate cut diff do dyn else enum extern false final fit fn for \
+    fresh gen i128 if impl in inter let line loop macro macro_rules main match mod move mul mut outputs override priv \
+    pub raw read ref replied reply rest return safe same self static std str struct sub subset sum_of super trait true \
+    try type typeof u32 u8 union unsafe unsized use usize value values virtual where while white word written yield ";
 
 /// The words that no variable may have for its name.
 pub fn words_of(language: Language) -> &'static [u8]
@@ -46,5 +54,6 @@ pub fn words_of(language: Language) -> &'static [u8]
         Language::C => C_WORDS,
         Language::Python => PYTHON_WORDS,
         Language::JavaScript => JAVASCRIPT_WORDS,
+        Language::Rust => RUST_WORDS,
     }
 }

@@ -4,7 +4,7 @@ use Rattle.cf_stmt.specs.Blocks.{Block, give, none, leave, bind, part, join, tes
 use Rattle.cf_print_term.specs.Expressions.{Sight}
 use Rattle.cf_print_shape.specs.Shapes.{number_of, is_none, gives, is_plain}
 use Rattle.cf_print_block.specs.Places.{Setting, Draft, Held, giving}
-use Rattle.cf_print_block.specs.Statements.{block, held, in_place, inner_behind, inner_ahead, give_back, kept, joined_held, all_in_variables, never_read, tested, guarded, plain_arm, searched_arm}
+use Rattle.cf_print_block.specs.Statements.{block, held, has_scope, in_place, inner_behind, inner_ahead, give_back, kept, joined_held, all_in_variables, never_read, tested, guarded, plain_arm, searched_arm, told_behind}
 use Rattle.cf_print_block.specs.StatementParts.{both_in, tested_in, guarded_in, plain_arm_in, searched_arm_in}
 use Rattle.cf_print_block.specs.declared.inner.Inner.{Inner}
 use Rattle.cf_print_block.specs.declared.place.Place.{Place}
@@ -63,17 +63,17 @@ pub plain_block : (s : Setting) (w : Sight) (t : Block) (ks : List ℕ) (a b : B
     nat_eq (length ks) 0 ≡ true → q ≡ giving s (number_of b) p → plain_arm_in s w t q d ≡ block s w t p d
 plain_block s w t ks a b p q d is none_left at =
     let r = giving s (number_of b) p in
-    ap (λ u. plain_arm_in s w u q d) is ∙ ap (λ x. plain_arm s x (is_none b) (block s w a) (block s w b) d) at ∙
-    sym (if_yes (nat_eq (length ks) 0) (plain_arm s r (is_none b) (block s w a) (block s w b) d)
-    (searched_arm s r w ks (is_none b) (λ v. block s v a) (block s w b) d) none_left) ∙ ap (λ u. block s w u p d) (sym is)
+    ap (λ u. plain_arm_in s w u q d) is ∙ ap (λ x. plain_arm s x (is_none b) (has_scope s.language a) (block s w a) (told_behind s b (block s w b)) d) at ∙
+    sym (if_yes (nat_eq (length ks) 0) (plain_arm s r (is_none b) (has_scope s.language a) (block s w a) (told_behind s b (block s w b)) d)
+    (searched_arm s r w ks (is_none b) (λ v. block s v a) (told_behind s b (block s w b)) d) none_left) ∙ ap (λ u. block s w u p d) (sym is)
 
 pub searched_block : (s : Setting) (w : Sight) (t : Block) (ks : List ℕ) (a b : Block) (p q : Place) (d : Draft) → t ≡ arm ks a b →
     nat_eq (length ks) 0 ≡ false → q ≡ giving s (number_of b) p → searched_arm_in s w t q d ≡ block s w t p d
 searched_block s w t ks a b p q d is some at =
     let r = giving s (number_of b) p in
-    ap (λ u. searched_arm_in s w u q d) is ∙ ap (λ x. searched_arm s x w ks (is_none b) (λ v. block s v a) (block s w b) d) at ∙
-    sym (if_no (nat_eq (length ks) 0) (plain_arm s r (is_none b) (block s w a) (block s w b) d)
-    (searched_arm s r w ks (is_none b) (λ v. block s v a) (block s w b) d) some) ∙ ap (λ u. block s w u p d) (sym is)
+    ap (λ u. searched_arm_in s w u q d) is ∙ ap (λ x. searched_arm s x w ks (is_none b) (λ v. block s v a) (told_behind s b (block s w b)) d) at ∙
+    sym (if_no (nat_eq (length ks) 0) (plain_arm s r (is_none b) (has_scope s.language a) (block s w a) (told_behind s b (block s w b)) d)
+    (searched_arm s r w ks (is_none b) (λ v. block s v a) (told_behind s b (block s w b)) d) some) ∙ ap (λ u. block s w u p d) (sym is)
 
 -- ---- values that are joined
 -- where the second block never gives, no statement reads the values of the first

@@ -8,7 +8,7 @@ use Rattle.cf_range.specs.CodeRanges.{range_of}
 use Rattle.cf_range.specs.declared.range.Range.{Range}
 use Rattle.cf_print_term.specs.Terms.{text}
 use Rattle.cf_print_term.specs.Marks.{mark_text}
-use Rattle.cf_print_term.specs.Expressions.{Sight, base_of, term_of, opposite_of, denied}
+use Rattle.cf_print_term.specs.Expressions.{Sight, base_of, is_small, term_of, opposite_of, denied}
 use Rattle.cf_print_term.specs.Rows.{table_of}
 use Rattle.cf_print.specs.Words.{words_of}
 use Rattle.cf_print.specs.Names.{new_name}
@@ -100,6 +100,7 @@ at_hand t w c = record {
   text = text (term_of t w c);
   denied = denied_text t w c (base_of w.bases c);
   is_variable = is_variable c;
+  is_small = is_small c;
   base = base_of w.bases c;
   range = range_of w.ranges c;
 }
@@ -120,10 +121,10 @@ not_text t Set x = []
 
 -- a variable of this name
 abbrev pub variable : Table → Base → Range → List ℕ → AtHand
-variable t b r x = record { text = x; denied = not_text t b x; is_variable = true; base = b; range = r }
+variable t b r x = record { text = x; denied = not_text t b x; is_variable = true; is_small = false; base = b; range = r }
 
 abbrev pub first_at_hand : List AtHand → AtHand
-first_at_hand [] = record { text = []; denied = []; is_variable = false; base = Int; range = whole }
+first_at_hand [] = record { text = []; denied = []; is_variable = false; is_small = false; base = Int; range = whole }
 first_at_hand (v ∷ vs) = v
 
 unfoldable pub behind_one : Sight → AtHand → Sight

@@ -3,7 +3,7 @@ use Rattle.cf_stmt.specs.Blocks.{Block, give, none, leave, bind, part, join, tes
 use Rattle.cf_print_term.specs.Expressions.{Sight}
 use Rattle.cf_print_block.specs.Places.{Setting, Draft, Held}
 use Rattle.cf_print_shape.specs.Shapes.{is_none, is_plain}
-use Rattle.cf_print_block.specs.Statements.{block, held, in_place, kept, joined_held, no_values, tested, branched, guarded, plain_arm, searched_arm}
+use Rattle.cf_print_block.specs.Statements.{block, held, in_place, kept, joined_held, no_values, tested, branched, guarded, has_scope, plain_arm, searched_arm, told_behind}
 use Rattle.cf_print_block.specs.declared.place.Place.{Place}
 use Rattle.cf_print_block.specs.declared.values.AtHand.{AtHand}
 
@@ -32,9 +32,9 @@ guarded_in s w b p h = h
 
 -- an arm at the place that its choose gives
 abbrev pub plain_arm_in : Setting → Sight → Block → Place → Draft → Draft
-plain_arm_in s w (arm ks a b) p d = plain_arm s p (is_none b) (block s w a) (block s w b) d
+plain_arm_in s w (arm ks a b) p d = plain_arm s p (is_none b) (has_scope s.language a) (block s w a) (told_behind s b (block s w b)) d
 plain_arm_in s w b p d = d
 
 abbrev pub searched_arm_in : Setting → Sight → Block → Place → Draft → Draft
-searched_arm_in s w (arm ks a b) p d = searched_arm s p w ks (is_none b) (λ v. block s v a) (block s w b) d
+searched_arm_in s w (arm ks a b) p d = searched_arm s p w ks (is_none b) (λ v. block s v a) (told_behind s b (block s w b)) d
 searched_arm_in s w b p d = d

@@ -6,13 +6,13 @@ use Rattle.cf_range.specs.Ranges.{between, whole}
 use Rattle.cf_stmt.specs.Blocks.{Block, give, none, leave, bind, part, join, test, arm}
 use Rattle.cf_print_term.specs.Expressions.{Sight}
 use Rattle.cf_print_line.specs.Heads.{all_parameters, part_opening, part_closing}
-use Rattle.cf_print_line.specs.Layout.{line, let_lines, read_lines, comment_text, none_text, next_text, fall_lines, if_text, guard_text, end_lines, guard_end, else_lines, scope_lines, search_text, give_lines, call_lines}
+use Rattle.cf_print_line.specs.Layout.{line, let_lines, read_lines, comment_text, none_text, next_text, fall_lines, if_text, guard_text, end_lines, guard_end, else_lines, scope_lines, search_text, give_lines, owned_text, call_lines}
 use Rattle.cf_print_block.specs.Places.{Setting, table, name_in, deeper, leaving_by, behind_arm, outputs_at, giving_of, giving, Draft, put, taking, freed, given, variable, first_at_hand, behind_one, behind, ahead, Held, wish_at}
-use Rattle.cf_print_shape.specs.Shapes.{number_of, is_none, is_leave, exit_of, gives, is_straight, can_fall, is_plain, block_reads, those_read, results_of}
+use Rattle.cf_print_shape.specs.Shapes.{number_of, is_none, is_leave, is_if, exit_of, gives, is_straight, can_fall, is_plain, block_reads, those_read, results_of}
 use Rattle.cf_print_shape.specs.Wishes.{given_at}
 use Rattle.cf_print.specs.Names.{is_one_of}
 use Rattle.cf_print.specs.declared.language.Language.{Language}
-use Rattle.cf_print.specs.declared.language.Language.TheVariants.{C, Python, JavaScript}
+use Rattle.cf_print.specs.declared.language.Language.TheVariants.{C, Python, JavaScript, Rust}
 use Rattle.cf_print_shape.specs.declared.exit.Exit.{Exit}
 use Rattle.cf_print_shape.specs.declared.exit.Exit.TheVariants.{Falls, GoesOn, Ends}
 use Rattle.cf_print_block.specs.declared.place.Place.{Place}
@@ -25,8 +25,11 @@ use Rattle.cf_print_block.specs.declared.inner.Inner.{Inner}
 
 -- ---- values in variables
 
-abbrev pub names_of : List AtHand → List (List ℕ)
-names_of vs = map (λ v. v.text) vs
+abbrev pub given_text : Language → AtHand → List ℕ
+given_text l v = if v.is_variable then owned_text l v.base v.text else v.text
+
+abbrev pub given_texts : Language → List AtHand → List (List ℕ)
+given_texts l vs = map (given_text l) vs
 
 -- one value more
 abbrev pub with_value : AtHand → Draft → Held → Held
@@ -37,7 +40,7 @@ unfoldable pub with_let : Setting → ℕ → Wish → AtHand → Held → Held
 with_let s depth wish v h =
     let name = name_in s h.draft.taken v.base wish.name in
     with_value (variable (table s) v.base v.range name)
-    (taking name (put (let_lines s.language depth wish.is_read v.base name v.text) h.draft)) h
+    (taking name (put (let_lines s.language depth wish.is_read v.is_small v.base name v.text) h.draft)) h
 
 unfoldable pub with_variable : Setting → ℕ → Wish → AtHand → Held → Held
 with_variable s depth wish v h =
@@ -122,6 +125,7 @@ abbrev pub has_pointers : Language → Bool
 has_pointers C = true
 has_pointers Python = false
 has_pointers JavaScript = false
+has_pointers Rust = false
 
 abbrev pub pointers_for : Setting → List (List ℕ) → List Base → List (List ℕ) → List (List ℕ)
 pointers_for s asked bs taken = if has_pointers s.language then names_for s Pointer asked 0 bs taken else []
@@ -225,14 +229,14 @@ in_place s p w a straight body d = if is_straight p.exit a then straight p d els
 abbrev pub exit_lines : Language → ℕ → Exit → List ℕ
 exit_lines l depth Falls = fall_lines l depth
 exit_lines l depth GoesOn = line l depth (next_text l)
-exit_lines l depth (Ends n) = line l depth (none_text l n)
+exit_lines l depth (Ends n) = line l depth (none_text l depth n)
 
 -- where a condition holds the block is left
 abbrev pub guard_lines : Language → ℕ → List ℕ → Exit → List ℕ
 guard_lines l depth condition e = line l depth (guard_text l condition) ++ exit_lines l (suc depth) e ++ guard_end l depth
 
 unfoldable pub give_back : Setting → Place → Held → Draft
-give_back s p h = put (give_lines s.language p.depth h.draft.pointers (names_of h.values)) h.draft
+give_back s p h = put (give_lines s.language p.depth h.draft.pointers (given_texts s.language h.values)) h.draft
 
 -- an arm among several is told by a comment
 abbrev pub arm_text : ℕ → List ℕ
@@ -244,6 +248,17 @@ arm_comment l p = line l p.depth (comment_text l (arm_text p.arms))
 abbrev pub arm_lines : Language → Place → Option ℕ → List ℕ
 arm_lines l p (Some n) = if nat_eq p.arms 0 then [] else arm_comment l p
 arm_lines l p None = arm_comment l p
+
+-- before the last arm behind others, where nothing but its statements is left of it
+abbrev pub last_arm_lines : Language → Place → Block → List ℕ
+last_arm_lines l p (arm ks a b) = []
+last_arm_lines l p (none n) = []
+last_arm_lines l p leave = []
+last_arm_lines l p b = arm_comment l p
+
+-- what stands behind an arm
+abbrev pub told_behind : Setting → Block → (Place → Draft → Draft) → Place → Draft → Draft
+told_behind s b later p d = later p (put (last_arm_lines s.language p b) d)
 
 -- ---- tests: a side that only leaves is a guard
 
@@ -280,17 +295,27 @@ guarded s p a b h yes_side no_side = guarded_by (exit_of p.exit b) (exit_of p.ex
 
 -- ---- arms
 
-abbrev pub arm_place : Language → Place → Place
-arm_place Python p = leaving_by Falls p
-arm_place C p = deeper (leaving_by Falls p)
-arm_place JavaScript p = deeper (leaving_by Falls p)
+-- an arm has a scope for its variables, unless these stand within an `if`
+abbrev pub has_scope : Language → Block → Bool
+has_scope Python a = false
+has_scope C a = not (is_if a)
+has_scope JavaScript a = not (is_if a)
+has_scope Rust a = not (is_if a)
+
+abbrev pub arm_place : Bool → Place → Place
+arm_place true p = deeper (leaving_by Falls p)
+arm_place false p = leaving_by Falls p
+
+abbrev pub put_when : Bool → List ℕ → Draft → Draft
+put_when true lines d = put lines d
+put_when false lines d = d
 
 -- an arm without searches: the last one has guards
-unfoldable pub plain_arm : Setting → Place → Option ℕ → (Place → Draft → Draft) → (Place → Draft → Draft) → Draft → Draft
-plain_arm s p (Some n) body later d = body (leaving_by (Ends n) p) (put (arm_lines s.language p (Some n)) d)
-plain_arm s p None body later d =
-    let ended = body (arm_place s.language p) (put (scope_lines s.language p.depth) (put (arm_lines s.language p None) d)) in
-    later (behind_arm p) (put (end_lines s.language p.depth) (freed (length d.taken) ended))
+unfoldable pub plain_arm : Setting → Place → Option ℕ → Bool → (Place → Draft → Draft) → (Place → Draft → Draft) → Draft → Draft
+plain_arm s p (Some n) scoped body later d = body (leaving_by (Ends n) p) (put (arm_lines s.language p (Some n)) d)
+plain_arm s p None scoped body later d =
+    let ended = body (arm_place scoped p) (put_when scoped (scope_lines s.language p.depth) (put (arm_lines s.language p None) d)) in
+    later (behind_arm p) (put_when scoped (end_lines s.language p.depth) (freed (length d.taken) ended))
 
 -- what the variable of the j-th search is named after: i, j, k, k3 and so on
 abbrev pub search_letter : ℕ → List ℕ
@@ -356,8 +381,8 @@ abbrev mutual
   block s w (arm ks a b) p d =
       let q = giving s (number_of b) p in
       if nat_eq (length ks) 0
-      then plain_arm s q (is_none b) (block s w a) (block s w b) d
-      else searched_arm s q w ks (is_none b) (λ v. block s v a) (block s w b) d
+      then plain_arm s q (is_none b) (has_scope s.language a) (block s w a) (told_behind s b (block s w b)) d
+      else searched_arm s q w ks (is_none b) (λ v. block s v a) (told_behind s b (block s w b)) d
 
   -- the values of a straight block, behind its statements
   pub held : Setting → Sight → Block → Place → Draft → Held

@@ -67,13 +67,14 @@ pub(crate) fn put_let(
     name: &Text,
     value: &AtHand,
 ) -> Result<Draft, NoMemory>
-    ensures { IfOk result (λ d. d ≡ put (let_lines language depth is_read value.now.base name.now value.now.text) draft) }
+    ensures { IfOk result (λ d. d ≡ put (let_lines language depth is_read value.now.is_small value.now.base name.now value.now.text) draft) }
 {
     let mut draft = draft;
     layout::put_let(
         &mut draft.lines,
         language,
         depth,
+        value.is_small,
         value.base,
         &name.bytes,
         &value.text.bytes,

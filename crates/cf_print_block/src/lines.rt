@@ -1,9 +1,10 @@
 //! Lines of a place, behind a draft.
 ghost use Rattle.std.specs.Prelude.{◌≡◌, ◌++◌, IfOk, OnOk};
+ghost use Rattle.cf_stmt.specs.BlockView.{block_tree};
 ghost use Rattle.cf_print_line.specs.Layout.{else_lines, end_lines, if_text, line, scope_lines};
 ghost use Rattle.cf_print_block.specs.Places.{put};
 ghost use Rattle.cf_print_block.specs.PrinterView.{setting_in};
-ghost use Rattle.cf_print_block.specs.Statements.{arm_comment, arm_lines, arm_text as text_of_arm, exit_lines, give_back as given_back, guard_lines, loop_ends};
+ghost use Rattle.cf_print_block.specs.Statements.{arm_comment, arm_lines, arm_text as text_of_arm, exit_lines, give_back as given_back, guard_lines, last_arm_lines, loop_ends, put_when};
 
 use crate::draft::Draft;
 use crate::place::Place;
@@ -13,6 +14,7 @@ use crate::variables::Held;
 use cf_print::{Language, next, sum_of};
 use cf_print_line::{layout, put_give};
 use cf_print_shape::Exit;
+use cf_stmt::Block;
 use cf_tree::{NoMemory, Text, put_number};
 use std::alloc::Global;
 
@@ -124,17 +126,43 @@ pub(crate) fn put_end(printer: &Printer<'_>, place: Place, draft: Draft) -> Resu
     Ok(draft)
 }
 
-/// The draft with the line before an arm whose variables are its own.
+// The draft with the line before an arm whose variables are its own.
 #[tactic(auto, unfolding(crate::specs::PrinterView::setting_in, crate::specs::Places::put))]
-pub(crate) fn put_scope(
-    printer: &Printer<'_>,
-    place: Place,
-    draft: Draft,
-) -> Result<Draft, NoMemory>
+fn put_scope(printer: &Printer<'_>, place: Place, draft: Draft) -> Result<Draft, NoMemory>
     ensures { IfOk result (λ d. d ≡ put (scope_lines (setting_in printer.now).language place.depth) draft) }
 {
     let mut draft = draft;
     layout::put_scope(&mut draft.lines, printer.language, place.depth)?;
+    Ok(draft)
+}
+
+/// The draft with the line before an arm that has a scope.
+pub(crate) fn open_scope(
+    printer: &Printer<'_>,
+    place: Place,
+    scoped: bool,
+    draft: Draft,
+) -> Result<Draft, NoMemory>
+    ensures { IfOk result (λ d. d ≡ put_when scoped (scope_lines (setting_in printer.now).language place.depth) draft) }
+{
+    if scoped {
+        return put_scope(printer, place, draft);
+    }
+    Ok(draft)
+}
+
+/// The draft with the line behind an arm that has a scope.
+pub(crate) fn close_scope(
+    printer: &Printer<'_>,
+    place: Place,
+    scoped: bool,
+    draft: Draft,
+) -> Result<Draft, NoMemory>
+    ensures { IfOk result (λ d. d ≡ put_when scoped (end_lines (setting_in printer.now).language place.depth) draft) }
+{
+    if scoped {
+        return put_end(printer, place, draft);
+    }
     Ok(draft)
 }
 
@@ -200,6 +228,46 @@ pub(crate) fn put_arm(
     Ok(draft)
 }
 
+fn put_last_arm_lines(
+    alloc: Global,
+    out: &mut Vec<u8>,
+    language: Language,
+    place: Place,
+    block: &Block,
+) -> Result<(), NoMemory>
+    ensures { OnOk result (out.new.items ≡ out.old.items ++ last_arm_lines language place (block_tree block.now)) }
+{
+    match block {
+        Block::Arm { .. } | Block::Stop(_) | Block::Leave => Ok(()),
+        Block::Give(_)
+        | Block::Bind(_, _)
+        | Block::Part(_, _)
+        | Block::Join(_, _)
+        | Block::Test { .. } => put_arm_comment(alloc, out, language, place),
+    }
+}
+
+/// The draft with what tells the last arm behind others, where nothing but its statements is left of it.
+#[tactic(auto, unfolding(crate::specs::PrinterView::setting_in, crate::specs::Places::put))]
+pub(crate) fn put_last_arm(
+    printer: &Printer<'_>,
+    place: Place,
+    block: &Block,
+    draft: Draft,
+) -> Result<Draft, NoMemory>
+    ensures { IfOk result (λ d. d ≡ put (last_arm_lines (setting_in printer.now).language place (block_tree block.now)) draft) }
+{
+    let mut draft = draft;
+    put_last_arm_lines(
+        printer.alloc,
+        &mut draft.lines,
+        printer.language,
+        place,
+        block,
+    )?;
+    Ok(draft)
+}
+
 // The ends of so many loops, the inner ones first.
 fn put_ends(
     out: &mut Vec<u8>,
@@ -237,7 +305,7 @@ pub(crate) fn give_back(printer: &Printer<'_>, place: Place, held: Held) -> Resu
     ensures { IfOk result (λ d. d ≡ given_back (setting_in printer.now) place held) }
 {
     let Held { values, draft } = held;
-    let texts = texts_of(printer.alloc, &values)?;
+    let texts = texts_of(printer.alloc, printer.language, &values)?;
     let Draft {
         mut lines,
         pointers,

@@ -140,7 +140,7 @@ fn has_pointers(language: Language) -> bool
 {
     match language {
         Language::C => true,
-        Language::Python | Language::JavaScript => false,
+        Language::Python | Language::JavaScript | Language::Rust => false,
     }
 }
 

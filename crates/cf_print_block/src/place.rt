@@ -1,10 +1,12 @@
 //! Where statements stand.
 ghost use Rattle.std.specs.Prelude.{◌≡◌, IfOk};
+ghost use Rattle.cf_stmt.specs.BlockView.{block_tree};
 ghost use Rattle.cf_print_block.specs.Places.{behind_arm as behind_the_arm, deeper as one_deeper, giving_of as giving_at, leaving_by as leaving};
-ghost use Rattle.cf_print_block.specs.Statements.{arm_place as place_of_arm};
+ghost use Rattle.cf_print_block.specs.Statements.{arm_place as place_of_arm, has_scope as has_a_scope};
 
 use cf_print::{Language, next};
-use cf_print_shape::Exit;
+use cf_print_shape::{Exit, is_if};
+use cf_stmt::Block;
 use cf_tree::NoMemory;
 
 /// Whose outputs a block gives.
@@ -66,14 +68,24 @@ pub(crate) fn behind_arm(place: Place) -> Result<Place, NoMemory>
     })
 }
 
-/// The place of an arm without searches, which has others behind it.
-pub(crate) fn arm_place(language: Language, place: Place) -> Result<Place, NoMemory>
-    ensures { IfOk result (λ p. p ≡ place_of_arm language place) }
+/// Whether an arm has a scope for its variables.
+pub(crate) fn has_scope(language: Language, body: &Block) -> bool
+    ensures { result ≡ has_a_scope language (block_tree body.now) }
 {
     match language {
-        Language::Python => Ok(leaving_by(Exit::Falls, place)),
-        Language::C | Language::JavaScript => deeper(leaving_by(Exit::Falls, place)),
+        Language::Python => false,
+        Language::C | Language::JavaScript | Language::Rust => !is_if(body),
     }
+}
+
+/// The place of an arm without searches, which has others behind it, in a scope or not.
+pub(crate) fn arm_place(scoped: bool, place: Place) -> Result<Place, NoMemory>
+    ensures { IfOk result (λ p. p ≡ place_of_arm scoped place) }
+{
+    if scoped {
+        return deeper(leaving_by(Exit::Falls, place));
+    }
+    Ok(leaving_by(Exit::Falls, place))
 }
 
 /// What a function gives that is made for a choose, or for a part of main where the number is 0.

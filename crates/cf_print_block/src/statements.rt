@@ -11,9 +11,10 @@ use crate::draft::Draft;
 use crate::function::{Outer, begun, function_of, inside, results_held};
 use crate::inner::{bound_ahead, bound_behind};
 use crate::lines::{
-    give_back, put_arm, put_else, put_end, put_exit, put_guard, put_if, put_loop_ends, put_scope,
+    close_scope, give_back, open_scope, put_arm, put_else, put_end, put_exit, put_guard, put_if,
+    put_last_arm, put_loop_ends,
 };
-use crate::place::{Place, arm_place, behind_arm, deeper, leaving_by};
+use crate::place::{Place, arm_place, behind_arm, deeper, has_scope, leaving_by};
 use crate::printer::{Printer, giving, language_in};
 use crate::searches::{Loops, loops_of};
 use crate::values::{AtHand, first_of, given};
@@ -291,18 +292,15 @@ fn plain_arm(
             }
             None => {
                 let count = draft.taken.len();
+                let scoped = has_scope(language_in(printer), body);
                 let told = put_arm(printer, place, None, draft)?;
-                let scoped = put_scope(printer, place, told)?;
+                let opened = open_scope(printer, place, scoped, told)?;
                 let copy = scope.try_copy(printer.alloc)?;
-                let ended = put_block(
-                    printer,
-                    copy,
-                    body,
-                    arm_place(language_in(printer), place)?,
-                    scoped,
-                )?;
-                let behind = put_end(printer, place, ended.freed(count))?;
-                put_block(printer, scope, later, behind_arm(place)?, behind)
+                let ended = put_block(printer, copy, body, arm_place(scoped, place)?, opened)?;
+                let behind = close_scope(printer, place, scoped, ended.freed(count))?;
+                let at = behind_arm(place)?;
+                let told = put_last_arm(printer, at, later, behind)?;
+                put_block(printer, scope, later, at, told)
             }
         },
         // for the proof: no other form comes here
@@ -344,7 +342,9 @@ fn searched_arm(
             };
             let ended = put_block(printer, inside.scope, body, at, inside.draft)?;
             let behind = put_loop_ends(printer, place, bounds.len(), ended.freed(count))?;
-            put_block(printer, scope, later, behind_arm(place)?, behind)
+            let at = behind_arm(place)?;
+            let told = put_last_arm(printer, at, later, behind)?;
+            put_block(printer, scope, later, at, told)
         }
         // for the proof: no other form comes here
         _ => Err(NoMemory),

@@ -4,22 +4,26 @@ ghost use Rattle.cf_tree.specs.CodeView.{code_tree, code_trees};
 ghost use Rattle.cf_print_term.specs.Expressions.{term_of as term_at};
 ghost use Rattle.cf_print_block.specs.Places.{ahead as one_ahead, all_at_hand as those_at_hand, at_hand as value_at_hand, behind as those_behind, behind_one, denied_text, first_at_hand, given as given_by, is_variable as names_variable, not_text as text_of_not, table, variable as variable_of, wish_at as wish_for_place};
 ghost use Rattle.cf_print_block.specs.PrinterView.{setting_in};
-ghost use Rattle.cf_print_block.specs.Statements.{names_of};
+ghost use Rattle.cf_print_block.specs.Statements.{given_text as text_given, given_texts};
 ghost use Rattle.cf_print_term.specs.Terms.{text};
 ghost use Rattle.cf_print_term.specs.TermView.{term_tree};
 
 use crate::printer::{Printer, table_in};
-use cf_print_term::{Scope, Table, Term, Walk, base_of, bytes, not, put_term, term_of};
+use cf_print::Language;
+use cf_print_line::owned_text;
+use cf_print_term::{Scope, Table, Term, Walk, base_of, bytes, is_small, not, put_term, term_of};
 use cf_range::{Range, range_of};
 use cf_tree::{Base, Code, NoMemory, Text};
 use std::alloc::Global;
 
-/// A value that is at hand: its text, that of its opposite where it is a condition, and whether it is a variable.
+/// A value that is at hand: its text, that of its opposite where it is a condition, and whether it is a variable or made of
+/// numerals alone.
 #[derive(Drop)]
 pub(crate) struct AtHand {
     pub text: Text,
     pub denied: Text,
     pub is_variable: bool,
+    pub is_small: bool,
     pub base: Base,
     pub range: Range,
 }
@@ -92,6 +96,7 @@ fn at_hand(walk: &Walk<'_>, code: &Code) -> Result<AtHand, NoMemory>
         text,
         denied,
         is_variable: is_variable(code),
+        is_small: is_small(code),
         base,
         range,
     })
@@ -176,6 +181,7 @@ pub(crate) fn variable(
         text: name.try_copy(printer.alloc)?,
         denied,
         is_variable: true,
+        is_small: false,
         base,
         range,
     })
@@ -191,6 +197,7 @@ impl AtHand {
             text: self.text.try_copy(alloc)?,
             denied,
             is_variable: self.is_variable,
+            is_small: self.is_small,
             base: self.base,
             range: self.range,
         })
@@ -205,6 +212,7 @@ fn no_value(alloc: Global) -> AtHand
         text: no_text(alloc),
         denied: no_text(alloc),
         is_variable: false,
+        is_small: false,
         base: Base::Int,
         range: Range::whole(),
     }
@@ -220,13 +228,27 @@ pub(crate) fn first_of(alloc: Global, values: &[AtHand]) -> Result<AtHand, NoMem
     }
 }
 
-/// The texts of values.
-pub(crate) fn texts_of(alloc: Global, values: &[AtHand]) -> Result<Vec<Text>, NoMemory>
-    ensures { IfOk result (λ ts. ts.items ≡ names_of values.now) }
+fn given_text(alloc: Global, language: Language, value: &AtHand) -> Result<Text, NoMemory>
+    ensures { IfOk result (λ t. t ≡ text_given language value.now) }
+{
+    if value.is_variable {
+        owned_text(alloc, language, value.base, &value.text.bytes)
+    } else {
+        value.text.try_copy(alloc)
+    }
+}
+
+/// The texts of values that are given.
+pub(crate) fn texts_of(
+    alloc: Global,
+    language: Language,
+    values: &[AtHand],
+) -> Result<Vec<Text>, NoMemory>
+    ensures { IfOk result (λ ts. ts.items ≡ given_texts language values.now) }
 {
     let mut all = Vec::new(alloc);
     for value in values {
-        all.push(value.text.try_copy(alloc)?)?;
+        all.push(given_text(alloc, language, value)?)?;
     }
     Ok(all)
 }

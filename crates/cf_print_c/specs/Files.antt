@@ -8,7 +8,7 @@ use Rattle.cf_print.specs.Pieces.{joined}
 use Rattle.cf_print_line.specs.Layout.{base_text, unread_lines, addresses}
 use Rattle.cf_print_line.specs.Heads.{all_parameters, head_text}
 use Rattle.cf_print.specs.declared.language.Language.TheVariants.{C}
-use Rattle.cf_print_c.specs.declared.texts.TheConstants.{PAST, RETURN_PAST, PUT_NUMBER, TRUE_OR_FALSE, ADD, TOTAL, SUB, MUL, DIV_DOWN, MOD_UP, LEAST, GREATEST, HALVES, POSIX, STANDARD, STRING, NUMBERS, STATUS, INCLUDES, PUT, READ_NUMBER, READ_TRUTH, REPLY, LONG_LINE, BAD_INPUT, TOLD, FILTER_MAIN}
+use Rattle.cf_print_c.specs.declared.texts.TheConstants.{PAST, RETURN_PAST, PUT_NUMBER, TRUE_OR_FALSE, ADD, SUM_OF, SUB, MUL, DIV_DOWN, MOD_UP, LEAST, GREATEST, HALVES, POSIX, STANDARD, STRING, NUMBERS, STATUS, INCLUDES, PUT, READ_NUMBER, READ_TRUTH, REPLY, LONG_LINE, BAD_INPUT, TOLD, FILTER_MAIN}
 use Rattle.cf_print.specs.Helpers.{when, with_helper}
 use Rattle.cf_print.specs.Sources.{head_of}
 use Rattle.cf_print_line.specs.declared.heads.TheConstants.{C_BODY}
@@ -26,7 +26,7 @@ is_truth Set = false
 
 abbrev pub with_sums : List ℕ → List ℕ
 with_sums text =
-    with_helper (codes "add(") ADD.now (with_helper (codes "total(") TOTAL.now
+    with_helper (codes "add(") ADD.now (with_helper (codes "sum_of(") SUM_OF.now
     (with_helper (codes "sub(") SUB.now (with_helper (codes "mul(") MUL.now text)))
 
 abbrev pub with_quotients : List ℕ → List ℕ

@@ -13,7 +13,7 @@ fn with_sums(alloc: Global, text: Vec<u8>) -> Result<Vec<u8>, NoMemory>
 {
     let text = with_helper(alloc, b"mul(", texts::MUL, text)?;
     let text = with_helper(alloc, b"sub(", texts::SUB, text)?;
-    let text = with_helper(alloc, b"total(", texts::TOTAL, text)?;
+    let text = with_helper(alloc, b"sum_of(", texts::SUM_OF, text)?;
     with_helper(alloc, b"add(", texts::ADD, text)
 }
 

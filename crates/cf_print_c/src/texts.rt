@@ -62,11 +62,11 @@ static inline whole add(whole a, whole b, bool *past)
 ";
 
 /// The sum of three numbers or more.
-pub const TOTAL: &[u8] = b"/* Behind the parts of a sum. */
+pub const SUM_OF: &[u8] = b"/* Behind the parts of a sum. */
 #define END (-MAX - 1)
 
 /* The sum of the parts, from left to right; past is set where that is past MAX on its way. */
-static inline whole total(const whole *parts, bool *past)
+static inline whole sum_of(const whole *parts, bool *past)
 {
     whole sum = 0;
     for (; *parts != END; parts++)

@@ -4,7 +4,7 @@ use Rattle.std.specs.Fmt.{digits}
 use Rattle.cf_tree.specs.declared.base.Base.TheVariants.{Int, Bool as Truth, Set}
 use Rattle.cf_print.specs.Helpers.{with_helper}
 use Rattle.cf_print_line.specs.Called.{Called}
-use Rattle.cf_print_js.specs.declared.texts.TheConstants.{MAX, OVERFLOW, FIT, TOTAL, RISING, UNION}
+use Rattle.cf_print_js.specs.declared.texts.TheConstants.{MAX, OVERFLOW, FIT, SUM_OF, RISING, UNION}
 use Rattle.cf_print_js.specs.Files.{opening, comment_by, with_helpers, reply}
 
 -- three numbers of one, where one choose may have no solution
@@ -52,7 +52,7 @@ unfolding with_helper
 no_helper = refl
 
 -- a helper, and those that it calls
-helpers_of_a_sum : with_helpers (codes "x = total(1n, 2n);\n") ≡ MAX.now ++ OVERFLOW.now ++ FIT.now ++ TOTAL.now ++ codes "x = total(1n, 2n);\n"
+helpers_of_a_sum : with_helpers (codes "x = sum_of(1n, 2n);\n") ≡ MAX.now ++ OVERFLOW.now ++ FIT.now ++ SUM_OF.now ++ codes "x = sum_of(1n, 2n);\n"
 unfolding with_helper
 helpers_of_a_sum = refl
 

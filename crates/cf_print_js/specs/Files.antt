@@ -6,7 +6,7 @@ use Rattle.cf_tree.specs.declared.base.Base.TheVariants.{Int, Bool as Truth, Set
 use Rattle.cf_print_line.specs.Layout.{base_text}
 use Rattle.cf_print_line.specs.Heads.{all_parameters, head_text, results_text}
 use Rattle.cf_print.specs.declared.language.Language.TheVariants.{JavaScript}
-use Rattle.cf_print_js.specs.declared.texts.TheConstants.{PAST, RETURNS, THROWS, AS_NUMBERS, MAX, NONE, OVERFLOW, FIT, TOTAL, WHOLE, TRUTH, RISING, NUMBERS, SET_OF, DIV, MOD, LEAST, GREATEST, UNION, INTER, DIFF, SUBSET, SAME, CARD, SLICE, FRESH, FILTER, REPLY, FILTER_MAIN}
+use Rattle.cf_print_js.specs.declared.texts.TheConstants.{PAST, RETURNS, THROWS, AS_NUMBERS, MAX, NONE, OVERFLOW, FIT, SUM_OF, WHOLE, TRUTH, RISING, NUMBERS, SET_OF, DIV, MOD, LEAST, GREATEST, UNION, INTER, DIFF, SUBSET, SAME, CARD, SLICE, FRESH, FILTER, REPLY, FILTER_MAIN}
 use Rattle.cf_print.specs.Helpers.{when, with_helper}
 use Rattle.cf_print.specs.Sources.{head_of}
 use Rattle.cf_print_line.specs.Called.{about_main, about_nones, Called}
@@ -15,7 +15,7 @@ use Rattle.cf_print_line.specs.Patterns.{line_text}
 abbrev pub with_numbers : List ℕ → List ℕ
 with_numbers text =
     with_helper (codes "MAX") MAX.now (with_helper (codes "NoSolution") NONE.now
-    (with_helper (codes "Overflow") OVERFLOW.now (with_helper (codes "fit(") FIT.now (with_helper (codes "total(") TOTAL.now text))))
+    (with_helper (codes "Overflow") OVERFLOW.now (with_helper (codes "fit(") FIT.now (with_helper (codes "sum_of(") SUM_OF.now text))))
 
 abbrev pub with_arguments : List ℕ → List ℕ
 with_arguments text =

@@ -55,9 +55,9 @@ function fit(number) {
 ";
 
 /// The sum of three numbers or more.
-pub const TOTAL: &[u8] = b"
+pub const SUM_OF: &[u8] = b"
 /** The sum of the parts, where it is at most MAX in absolute value on its way from left to right. */
-function total(...parts) {
+function sum_of(...parts) {
   return parts.reduce((sum, part) => fit(sum + part), 0n);
 }
 ";

@@ -3,7 +3,7 @@ use Rattle.std.specs.Prelude.{ℕ, List, [], ◌∷◌, length, decimal, codes, 
 use Rattle.std.specs.List.{concat}
 use Rattle.cf_tree.specs.declared.base.Base.{Base}
 use Rattle.cf_print.specs.declared.language.Language.{Language}
-use Rattle.cf_print.specs.declared.language.Language.TheVariants.{C, Python, JavaScript}
+use Rattle.cf_print.specs.declared.language.Language.TheVariants.{C, Python, JavaScript, Rust}
 use Rattle.cf_print.specs.Pieces.{joined}
 use Rattle.cf_print_line.specs.declared.called.TheConstants.{WHERE_NONE, WHERE_SEVERAL}
 
@@ -44,3 +44,4 @@ abbrev pub end_of : Language → List ℕ
 end_of Python = []
 end_of C = codes "}\n"
 end_of JavaScript = codes "}\n"
+end_of Rust = codes "}\n"

@@ -110,6 +110,6 @@ pub fn end_of(language: Language) -> &'static [u8]
 {
     match language {
         Language::Python => b"",
-        Language::C | Language::JavaScript => b"}\n",
+        Language::C | Language::JavaScript | Language::Rust => b"}\n",
     }
 }

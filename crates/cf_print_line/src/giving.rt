@@ -1,9 +1,9 @@
 //! Statements that give values, and that call functions of the file.
 ghost use Rattle.std.specs.Prelude.{◌≡◌, ◌++◌, ◌∷◌, [], drop, codes, OnOk, IfOk};
-ghost use Rattle.cf_print.specs.declared.language.Language.TheVariants.{C};
-ghost use Rattle.cf_print_line.specs.Layout.{addresses as the_addresses, all_text as text_of_all, bracketed as in_brackets, call_lines, declared_lines, declared_text, give_lines, line, past_lines, result_text, return_text, status_lines, through, through_text};
+ghost use Rattle.cf_print.specs.declared.language.Language.TheVariants.{C, Rust};
+ghost use Rattle.cf_print_line.specs.Layout.{addresses as the_addresses, all_text as text_of_all, bracketed as in_brackets, call_lines, copying, declared_lines, declared_text, give_lines, lent_line, lent_lines, line, owned_text as text_owned, past_lines, result_text, return_text, status_lines, through, through_text, zero_text as text_of_zero};
 
-use crate::layout::{base_text, put_line, put_words};
+use crate::layout::{before_end, behind_end, put_let, put_line, put_words};
 use cf_print::{Language, joined_text, next};
 use cf_tree::{Base, NoMemory, Text};
 use std::alloc::Global;
@@ -77,6 +77,7 @@ fn all_text(alloc: Global, language: Language, texts: &[Text]) -> Result<Text, N
 {
     match language {
         Language::JavaScript => bracketed(alloc, b"[", b"]", texts),
+        Language::Rust => bracketed(alloc, b"(", b")", texts),
         Language::C | Language::Python => joined_text(alloc, b", ", texts),
     }
 }
@@ -88,7 +89,7 @@ fn put_return(
     depth: usize,
     all: &[u8],
 ) -> Result<(), NoMemory>
-    ensures { OnOk result (out.new.items ≡ out.old.items ++ line language depth (return_text language all.now)) }
+    ensures { OnOk result (out.new.items ≡ out.old.items ++ line language depth (return_text language depth all.now)) }
 {
     match language {
         Language::C => put_words(out, language, depth, b"return past ? COMFUSY_OVERFLOW : 0;"),
@@ -99,7 +100,46 @@ fn put_return(
             depth,
             &[b"return ".as_slice(), all, b";".as_slice()],
         ),
+        Language::Rust => put_line(
+            out,
+            language,
+            depth,
+            &[
+                before_end(depth),
+                b"Ok(".as_slice(),
+                all,
+                b")".as_slice(),
+                behind_end(depth),
+            ],
+        ),
     }
+}
+
+// What stands behind a variable that is given.
+fn copies(language: Language, base: Base) -> &'static [u8]
+    ensures { result.now ≡ copying language base }
+{
+    match language {
+        Language::Rust => match base {
+            Base::Set => b".clone()",
+            Base::Int | Base::Bool => b"",
+        },
+        Language::C | Language::Python | Language::JavaScript => b"",
+    }
+}
+
+/// The text of a variable that is given: in Rust one that is a set is copied.
+pub fn owned_text(
+    alloc: Global,
+    language: Language,
+    base: Base,
+    name: &[u8],
+) -> Result<Text, NoMemory>
+    ensures { IfOk result (λ t. t ≡ text_owned language base name.now) }
+{
+    let mut bytes = Vec::from_slice(alloc, name)?;
+    bytes.extend_from_slice(copies(language, base))?;
+    Ok(Text { bytes })
 }
 
 /// Puts what a function gives; in C through pointers of these names.
@@ -119,32 +159,32 @@ pub fn put_give(
             put_return(out, Language::C, depth, &[])?;
             Ok(())
         }
-        Language::Python | Language::JavaScript => {
+        Language::Python | Language::JavaScript | Language::Rust => {
             let all = all_text(alloc, language, values)?;
             put_return(out, language, depth, &all.bytes)
         }
     }
 }
 
-fn put_declared_one(
+// What a variable of C has before a call gives it its value.
+fn zero_text<'x>(base: Base) -> &'x [u8]
+    ensures { result.now ≡ text_of_zero base }
+{
+    match base {
+        Base::Bool => b"false",
+        Base::Int | Base::Set => b"0",
+    }
+}
+
+fn put_declared_one<'x>(
     out: &mut Vec<u8>,
     depth: usize,
     base: Base,
-    name: &[u8],
+    name: &'x [u8],
 ) -> Result<(), NoMemory>
     ensures { OnOk result (out.new.items ≡ out.old.items ++ line C depth (declared_text base name.now)) }
 {
-    put_line(
-        out,
-        Language::C,
-        depth,
-        &[
-            base_text(Language::C, base),
-            b" ".as_slice(),
-            name,
-            b";".as_slice(),
-        ],
-    )
+    put_let(out, Language::C, depth, false, base, name, zero_text(base))
 }
 
 // A variable of C for each result of a call.
@@ -257,7 +297,83 @@ fn put_result<'x>(
                 b");".as_slice(),
             ],
         ),
+        Language::Rust => put_line(
+            out,
+            language,
+            depth,
+            &[
+                b"let ".as_slice(),
+                names,
+                b" = ".as_slice(),
+                function,
+                b"(".as_slice(),
+                args,
+                b")?;".as_slice(),
+            ],
+        ),
     }
+}
+
+fn put_lent_one(out: &mut Vec<u8>, depth: usize, base: Base, name: &[u8]) -> Result<(), NoMemory>
+    ensures { OnOk result (out.new.items ≡ out.old.items ++ lent_line depth name.now base) }
+{
+    match base {
+        Base::Set => put_line(
+            out,
+            Language::Rust,
+            depth,
+            &[
+                b"let ".as_slice(),
+                name,
+                b" = &".as_slice(),
+                name,
+                b";".as_slice(),
+            ],
+        ),
+        Base::Int | Base::Bool => Ok(()),
+    }
+}
+
+// Each result of a call of Rust that is a set is lent from there on.
+fn put_lent(out: &mut Vec<u8>, depth: usize, names: &[Text], bases: &[Base]) -> Result<(), NoMemory>
+    ensures { OnOk result (out.new.items ≡ out.old.items ++ lent_lines depth names.now bases.now) }
+{
+    let mut left = bases;
+    for name in names {
+        match left.split_first() {
+            None => return Ok(()),
+            Some((base, more)) => {
+                put_lent_one(out, depth, *base, &name.bytes)?;
+                left = more;
+            }
+        }
+    }
+    Ok(())
+}
+
+// A call of Rust.
+fn put_call_of_rust(
+    alloc: Global,
+    out: &mut Vec<u8>,
+    depth: usize,
+    call: &FileCall<'_>,
+    args: &[u8],
+) -> Result<(), NoMemory>
+    ensures { OnOk result (out.new.items ≡ out.old.items ++
+        (line Rust depth (result_text Rust (text_of_all Rust call.now.names.now) call.now.function.now args.now) ++
+        lent_lines depth call.now.names.now call.now.bases.now)) }
+{
+    let names = all_text(alloc, Language::Rust, call.names)?;
+    put_result(
+        out,
+        Language::Rust,
+        depth,
+        &names.bytes,
+        call.function,
+        args,
+    )?;
+    put_lent(out, depth, call.names, call.bases)?;
+    Ok(())
 }
 
 fn address(alloc: Global, name: &Text) -> Result<Text, NoMemory>
@@ -308,6 +424,10 @@ pub fn put_call(
             put_declared(out, depth, call.names, call.bases)?;
             put_status(out, depth, call.status, call.function, &args.bytes)?;
             Ok(())
+        }
+        Language::Rust => {
+            let args = joined_text(alloc, b", ", &args)?;
+            put_call_of_rust(alloc, out, depth, call, &args.bytes)
         }
         Language::Python | Language::JavaScript => {
             let args = joined_text(alloc, b", ", &args)?;

@@ -1,7 +1,7 @@
 //! How functions begin and end.
 ghost use Rattle.std.specs.Prelude.{◌≡◌, ◌++◌, ◌∷◌, [], codes, drop, IfOk, OnOk};
 ghost use Rattle.cf_print.specs.Pieces.{joined};
-ghost use Rattle.cf_print_line.specs.Heads.{about_part as about_the_part, all_base_texts as texts_of_bases, all_parameters as texts_of_all, head_text as text_of_head, head_with, opening_with as opening_by, parameter_text as text_of_parameter, parameter_texts as texts_of_parameters, part_closing as closing_of_part, part_opening as opening_of_part, pointer_text as text_of_pointer, pointer_texts as texts_of_pointers, results_text as text_of_results, results_with as tuple_of};
+ghost use Rattle.cf_print_line.specs.Heads.{about_part as about_the_part, all_base_texts as texts_of_bases, all_parameters as texts_of_all, head_text as text_of_head, head_with, lent_base_text as text_of_lent_base, opening_with as opening_by, parameter_text as text_of_parameter, parameter_texts as texts_of_parameters, part_closing as closing_of_part, part_opening as opening_of_part, pointer_text as text_of_pointer, pointer_texts as texts_of_pointers, results_text as text_of_results, results_with as tuple_of};
 
 use crate::layout::base_text;
 use cf_print::{Language, joined_text, text_of_pieces};
@@ -14,6 +14,24 @@ pub const C_BODY: &[u8] = b"
 {
     bool past = false;
 ";
+
+/// Between the parameters of a function of Rust and its results.
+pub const MAY_FAIL: &[u8] = b") -> Result<";
+
+/// From its results to its first statement.
+pub const FAILURE: &[u8] = b", ComfusyError> {
+";
+
+// The base of what a function of Rust is given.
+fn lent_base_text<'x>(base: Base) -> &'x [u8]
+    ensures { result.now ≡ text_of_lent_base base }
+{
+    match base {
+        Base::Set => b"&BTreeSet<i128>",
+        Base::Int => b"i128",
+        Base::Bool => b"bool",
+    }
+}
 
 /// A parameter.
 pub fn parameter_text(
@@ -33,6 +51,7 @@ pub fn parameter_text(
         Language::JavaScript => Ok(Text {
             bytes: Vec::from_slice(alloc, name)?,
         }),
+        Language::Rust => text_of_pieces(alloc, &[name, b": ".as_slice(), lent_base_text(base)]),
     }
 }
 
@@ -113,6 +132,7 @@ fn results_with(alloc: Global, language: Language, all: &[u8]) -> Result<Text, N
             &[b"tuple[".as_slice(), all, b"]".as_slice()],
         ),
         Language::JavaScript => text_of_pieces(alloc, &[b"[".as_slice(), all, b"]".as_slice()]),
+        Language::Rust => text_of_pieces(alloc, &[b"(".as_slice(), all, b")".as_slice()]),
     }
 }
 
@@ -197,6 +217,18 @@ fn head_of<'x>(
                 b") {\n".as_slice(),
             ],
         ),
+        Language::Rust => text_of_pieces(
+            alloc,
+            &[
+                b"fn ".as_slice(),
+                name,
+                b"(".as_slice(),
+                params,
+                MAY_FAIL,
+                results,
+                FAILURE,
+            ],
+        ),
     }
 }
 
@@ -254,6 +286,10 @@ fn opening_with<'x>(
             alloc,
             &[b"\n// ".as_slice(), about, b"\n".as_slice(), head],
         ),
+        Language::Rust => text_of_pieces(
+            alloc,
+            &[b"\n/// ".as_slice(), about, b"\n".as_slice(), head],
+        ),
     }
 }
 
@@ -287,7 +323,7 @@ pub fn all_parameters(
     let params = parameter_texts(alloc, language, names, bases)?;
     match language {
         Language::C => pointer_texts(alloc, params, pointers, results),
-        Language::Python | Language::JavaScript => Ok(params),
+        Language::Python | Language::JavaScript | Language::Rust => Ok(params),
     }
 }
 
@@ -298,6 +334,6 @@ pub fn part_closing(language: Language) -> &'static [u8]
     match language {
         Language::Python => b"",
         Language::C => b"}\n\n",
-        Language::JavaScript => b"}\n",
+        Language::JavaScript | Language::Rust => b"}\n",
     }
 }

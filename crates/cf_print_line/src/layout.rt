@@ -1,10 +1,16 @@
 //! Statements of the languages, a line or two for each.
 ghost use Rattle.std.specs.Prelude.{◌≡◌, ◌++◌, flat_map, OnOk};
-ghost use Rattle.cf_print_line.specs.Layout.{base_text as base_word, comment_text, else_lines, end_lines, fall_lines, guard_end, guard_text, if_text, let_text, line, next_text as next_word, none_text, read_lines, scope_lines, search_below, search_text, step_of as step, unread_lines};
+ghost use Rattle.cf_print_line.specs.Layout.{base_text as base_word, comment_text, else_lines, end_lines, before_end as end_before, before_value as value_before, behind_end as end_behind, fall_lines, guard_end, guard_text, if_text, let_text, line, next_text as next_word, none_text, read_lines, scope_lines, search_below, search_text, step_of as step, unread_lines};
 
 use cf_print::{Language, put_pieces, put_repeated};
 use cf_tree::{Base, NoMemory};
 use itoa::Buffer;
+
+/// Before the value of a set in a variable of Rust.
+pub const LENT: &[u8] = b": &BTreeSet<i128> = &";
+
+/// Before the number at which a function of Rust has no solution.
+pub const NO_SOLUTION: &[u8] = b"Err(ComfusyError::NoSolution(";
 
 // What stands before a line in a block.
 fn step_of(language: Language) -> &'static [u8]
@@ -12,7 +18,7 @@ fn step_of(language: Language) -> &'static [u8]
 {
     match language {
         Language::JavaScript => b"  ",
-        Language::C | Language::Python => b"    ",
+        Language::C | Language::Python | Language::Rust => b"    ",
     }
 }
 
@@ -65,19 +71,36 @@ pub fn base_text<'x>(language: Language, base: Base) -> &'x [u8]
             Base::Bool => b"boolean",
             Base::Set => b"Set<bigint>",
         },
+        Language::Rust => match base {
+            Base::Int => b"i128",
+            Base::Bool => b"bool",
+            Base::Set => b"BTreeSet<i128>",
+        },
     }
 }
 
-/// Puts a variable and its value.
+// What stands between a variable of Rust and its value.
+fn before_value<'x>(is_small: bool, base: Base) -> &'x [u8]
+    ensures { result.now ≡ value_before is_small base }
+{
+    match base {
+        Base::Set => LENT,
+        Base::Bool => b" = ",
+        Base::Int => if is_small { b": i128 = " } else { b" = " },
+    }
+}
+
+/// Puts a variable and its value, which may be made of numerals alone.
 pub fn put_let<'x>(
     out: &mut Vec<u8>,
     language: Language,
     depth: usize,
+    is_small: bool,
     base: Base,
     name: &'x [u8],
     value: &'x [u8],
 ) -> Result<(), NoMemory>
-    ensures { OnOk result (out.new.items ≡ out.old.items ++ line language depth (let_text language base name.now value.now)) }
+    ensures { OnOk result (out.new.items ≡ out.old.items ++ line language depth (let_text language is_small base name.now value.now)) }
 {
     match language {
         Language::C => put_line(
@@ -106,6 +129,18 @@ pub fn put_let<'x>(
                 b";".as_slice(),
             ],
         ),
+        Language::Rust => put_line(
+            out,
+            language,
+            depth,
+            &[
+                b"let ".as_slice(),
+                name,
+                before_value(is_small, base),
+                value,
+                b";".as_slice(),
+            ],
+        ),
     }
 }
 
@@ -120,13 +155,27 @@ pub fn put_comment(
 {
     match language {
         Language::Python => put_line(out, language, depth, &[b"# ".as_slice(), text]),
-        Language::C | Language::JavaScript => put_line(
+        Language::C | Language::JavaScript | Language::Rust => put_line(
             out,
             language,
             depth,
             &[b"// ".as_slice(), text],
         ),
     }
+}
+
+/// What stands before the value of a function of Rust: nothing before its last statement.
+pub(crate) fn before_end<'x>(depth: usize) -> &'x [u8]
+    ensures { result.now ≡ end_before depth }
+{
+    if depth == 1 { b"" } else { b"return " }
+}
+
+/// What stands behind it.
+pub(crate) fn behind_end<'x>(depth: usize) -> &'x [u8]
+    ensures { result.now ≡ end_behind depth }
+{
+    if depth == 1 { b"" } else { b";" }
 }
 
 /// Puts that there is no solution at a number.
@@ -136,7 +185,7 @@ pub fn put_none(
     depth: usize,
     number: u32,
 ) -> Result<(), NoMemory>
-    ensures { OnOk result (out.new.items ≡ out.old.items ++ line language depth (none_text language number)) }
+    ensures { OnOk result (out.new.items ≡ out.old.items ++ line language depth (none_text language depth number)) }
 {
     let mut buffer = Buffer::new();
     let digits = buffer.format(number).as_bytes();
@@ -167,6 +216,18 @@ pub fn put_none(
                 b");".as_slice(),
             ],
         ),
+        Language::Rust => put_line(
+            out,
+            language,
+            depth,
+            &[
+                before_end(depth),
+                NO_SOLUTION,
+                digits,
+                b"))".as_slice(),
+                behind_end(depth),
+            ],
+        ),
     }
 }
 
@@ -176,7 +237,9 @@ pub fn put_next(out: &mut Vec<u8>, language: Language, depth: usize) -> Result<(
 {
     match language {
         Language::Python => put_words(out, language, depth, b"continue"),
-        Language::C | Language::JavaScript => put_words(out, language, depth, b"continue;"),
+        Language::C | Language::JavaScript | Language::Rust => {
+            put_words(out, language, depth, b"continue;")
+        }
     }
 }
 
@@ -186,7 +249,7 @@ pub fn put_fall(out: &mut Vec<u8>, language: Language, depth: usize) -> Result<(
 {
     match language {
         Language::Python => put_words(out, language, depth, b"pass"),
-        Language::C | Language::JavaScript => Ok(()),
+        Language::C | Language::JavaScript | Language::Rust => Ok(()),
     }
 }
 
@@ -212,6 +275,12 @@ pub fn put_if(
             depth,
             &[b"if (".as_slice(), condition, b") {".as_slice()],
         ),
+        Language::Rust => put_line(
+            out,
+            language,
+            depth,
+            &[b"if ".as_slice(), condition, b" {".as_slice()],
+        ),
     }
 }
 
@@ -231,7 +300,9 @@ pub fn put_guard(
             depth,
             &[b"if (".as_slice(), condition, b")".as_slice()],
         ),
-        Language::Python | Language::JavaScript => put_if(out, language, depth, condition),
+        Language::Python | Language::JavaScript | Language::Rust => {
+            put_if(out, language, depth, condition)
+        }
     }
 }
 
@@ -241,7 +312,9 @@ pub fn put_end(out: &mut Vec<u8>, language: Language, depth: usize) -> Result<()
 {
     match language {
         Language::Python => Ok(()),
-        Language::C | Language::JavaScript => put_words(out, language, depth, b"}"),
+        Language::C | Language::JavaScript | Language::Rust => {
+            put_words(out, language, depth, b"}")
+        }
     }
 }
 
@@ -251,7 +324,7 @@ pub fn put_guard_end(out: &mut Vec<u8>, language: Language, depth: usize) -> Res
 {
     match language {
         Language::C => Ok(()),
-        Language::Python | Language::JavaScript => put_end(out, language, depth),
+        Language::Python | Language::JavaScript | Language::Rust => put_end(out, language, depth),
     }
 }
 
@@ -261,7 +334,9 @@ pub fn put_else(out: &mut Vec<u8>, language: Language, depth: usize) -> Result<(
 {
     match language {
         Language::Python => put_words(out, language, depth, b"else:"),
-        Language::C | Language::JavaScript => put_words(out, language, depth, b"} else {"),
+        Language::C | Language::JavaScript | Language::Rust => {
+            put_words(out, language, depth, b"} else {")
+        }
     }
 }
 
@@ -271,7 +346,9 @@ pub fn put_scope(out: &mut Vec<u8>, language: Language, depth: usize) -> Result<
 {
     match language {
         Language::Python => Ok(()),
-        Language::C | Language::JavaScript => put_words(out, language, depth, b"{"),
+        Language::C | Language::JavaScript | Language::Rust => {
+            put_words(out, language, depth, b"{")
+        }
     }
 }
 
@@ -343,6 +420,18 @@ fn put_search_below<'x>(
                 b"++) {".as_slice(),
             ],
         ),
+        Language::Rust => put_line(
+            out,
+            language,
+            depth,
+            &[
+                b"for ".as_slice(),
+                name,
+                b" in 0..".as_slice(),
+                digits,
+                b"_i128 {".as_slice(),
+            ],
+        ),
     }
 }
 
@@ -362,7 +451,7 @@ pub fn put_unread(
             depth,
             &[b"(void)".as_slice(), name, b";".as_slice()],
         ),
-        Language::Python | Language::JavaScript => Ok(()),
+        Language::Python | Language::JavaScript | Language::Rust => Ok(()),
     }
 }
 

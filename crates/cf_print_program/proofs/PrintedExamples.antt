@@ -7,7 +7,7 @@ use Rattle.cf_stmt.specs.Blocks.{Block, give, none, leave, test}
 use Rattle.cf_print_shape.specs.Nones.{nones_of}
 use Rattle.cf_print_program.specs.Printed.{Printing, unread_in, are_statuses, lacks_sets}
 use Rattle.cf_print.specs.declared.language.Language.{Language}
-use Rattle.cf_print.specs.declared.language.Language.TheVariants.{C, Python, JavaScript}
+use Rattle.cf_print.specs.declared.language.Language.TheVariants.{C, Python, JavaScript, Rust}
 
 -- ---- variables that are not read
 -- a number is read by its check, a truth value is not; and where nothing is given, no pointer is
@@ -26,6 +26,9 @@ past_int = refl
 
 not_in_python : are_statuses Python (nones_of (none 2147483648) []) ≡ true
 not_in_python = refl
+
+not_in_rust : are_statuses Rust (nones_of (none 2147483648) []) ≡ true
+not_in_rust = refl
 
 -- ---- sets
 abbrev printing : Language → List Base → List Base → Block → Printing
@@ -53,3 +56,6 @@ no_set = refl
 
 set_in_javascript : lacks_sets (printing JavaScript (Set ∷ []) [] (none 1)) ≡ false
 set_in_javascript = refl
+
+set_in_rust : lacks_sets (printing Rust (Set ∷ []) [] (none 1)) ≡ false
+set_in_rust = refl

@@ -19,7 +19,7 @@ use Rattle.cf_print_shape.specs.declared.exit.Exit.TheVariants.{Falls}
 use Rattle.cf_print_block.specs.declared.naming.Role.TheVariants.{Value, Pointer}
 use Rattle.cf_print_block.specs.declared.place.Giving.TheVariants.{Results}
 use Rattle.cf_print.specs.declared.language.Language.{Language}
-use Rattle.cf_print.specs.declared.language.Language.TheVariants.{C, Python, JavaScript}
+use Rattle.cf_print.specs.declared.language.Language.TheVariants.{C, Python, JavaScript, Rust}
 
 -- what is printed: in which language, whether as a filter of lines too, the name of its function, the source of which it comes, the bases of its
 -- parameters and results, and its statements
@@ -104,6 +104,7 @@ abbrev pub are_statuses : Language → List ℕ → Bool
 are_statuses C ns = list_all (λ n. nat_lt n INT_END) ns
 are_statuses Python ns = true
 are_statuses JavaScript ns = true
+are_statuses Rust ns = true
 
 -- the text is the print of a program, by some names; arms are left at their ends alone, as statements of a code are, since else the text is of no meaning
 pub record IsPrint (p : Printing) (text : List ℕ) : Type 0 where
@@ -118,6 +119,7 @@ abbrev pub has_sets : Language → Bool
 has_sets C = false
 has_sets Python = true
 has_sets JavaScript = true
+has_sets Rust = true
 
 -- a parameter, a result or a part of the statements is a set
 abbrev pub has_a_set : Printing → Bool

@@ -20,6 +20,7 @@ pub(crate) fn opening_of(
         Language::Python => cf_print_python::opening_of(alloc, function),
         Language::C => cf_print_c::opening_of(alloc, is_filter, function),
         Language::JavaScript => cf_print_js::opening_of(alloc, function),
+        Language::Rust => cf_print_rust::opening_of(alloc, function),
     }
 }
 
@@ -40,5 +41,6 @@ pub(crate) fn file_of(
         }
         Language::C => cf_print_c::file_of(alloc, has_main, source, function, functions),
         Language::JavaScript => cf_print_js::file_of(alloc, has_main, source, function, functions),
+        Language::Rust => cf_print_rust::file_of(alloc, has_main, source, function, functions),
     }
 }

@@ -266,7 +266,7 @@ fn are_statuses(alloc: Global, language: Language, block: &Block) -> Result<bool
             let nones = nones_of(block, Vec::new(alloc))?;
             Ok(are_ints(&nones))
         }
-        Language::Python | Language::JavaScript => Ok(true),
+        Language::Python | Language::JavaScript | Language::Rust => Ok(true),
     }
 }
 

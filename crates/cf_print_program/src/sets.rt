@@ -19,7 +19,7 @@ fn has_sets(language: Language) -> bool
 {
     match language {
         Language::C => false,
-        Language::Python | Language::JavaScript => true,
+        Language::Python | Language::JavaScript | Language::Rust => true,
     }
 }
 

@@ -4,7 +4,7 @@ use Rattle.std.specs.Fmt.{digits}
 use Rattle.cf_tree.specs.declared.base.Base.TheVariants.{Int, Bool as Truth, Set}
 use Rattle.cf_print.specs.Helpers.{with_helper}
 use Rattle.cf_print_line.specs.Called.{Called}
-use Rattle.cf_print_python.specs.declared.texts.TheConstants.{ITERABLE, MAX, FIT, TOTAL, WHOLE, NUMBERS}
+use Rattle.cf_print_python.specs.declared.texts.TheConstants.{ITERABLE, MAX, FIT, SUM_OF, WHOLE, NUMBERS}
 use Rattle.cf_print_python.specs.Files.{opening, opening_by, with_helpers}
 
 -- three numbers of one, where one choose may have no solution
@@ -51,7 +51,7 @@ unfolding with_helper
 no_helper = refl
 
 -- a helper, and those that it calls
-helpers_of_a_sum : with_helpers (codes "x = total(1, 2, 3)\n") ≡ MAX.now ++ FIT.now ++ TOTAL.now ++ codes "x = total(1, 2, 3)\n"
+helpers_of_a_sum : with_helpers (codes "x = sum_of(1, 2, 3)\n") ≡ MAX.now ++ FIT.now ++ SUM_OF.now ++ codes "x = sum_of(1, 2, 3)\n"
 unfolding with_helper
 helpers_of_a_sum = refl
 

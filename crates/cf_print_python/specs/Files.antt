@@ -5,7 +5,7 @@ use Rattle.cf_tree.specs.declared.base.Base.{Base}
 use Rattle.cf_tree.specs.declared.base.Base.TheVariants.{Int, Bool as Truth, Set}
 use Rattle.cf_print_line.specs.Heads.{head_text, parameter_text}
 use Rattle.cf_print.specs.declared.language.Language.TheVariants.{Python}
-use Rattle.cf_print_python.specs.declared.texts.TheConstants.{PAST, AS_NUMBERS, ITERABLE, MAX, NONE, FIT, TOTAL, WHOLE, TRUTH, NUMBERS, SLICE, FRESH, IMPORTS, FILTER, REPLY, OUTCOME, FILTER_MAIN}
+use Rattle.cf_print_python.specs.declared.texts.TheConstants.{PAST, AS_NUMBERS, ITERABLE, MAX, NONE, FIT, SUM_OF, WHOLE, TRUTH, NUMBERS, SLICE, FRESH, IMPORTS, FILTER, REPLY, OUTCOME, FILTER_MAIN}
 use Rattle.cf_print.specs.Helpers.{when, with_helper}
 use Rattle.cf_print.specs.Sources.{head_of}
 use Rattle.cf_print_line.specs.Called.{about_main, about_nones, Called}
@@ -15,7 +15,7 @@ abbrev pub with_numbers : List ℕ → List ℕ
 with_numbers text =
     with_helper (codes "Iterable[") ITERABLE.now
     (with_helper (codes "-MAX <=") MAX.now
-    (with_helper (codes "NoSolution") NONE.now (with_helper (codes "fit(") FIT.now (with_helper (codes "total(") TOTAL.now text))))
+    (with_helper (codes "NoSolution") NONE.now (with_helper (codes "fit(") FIT.now (with_helper (codes "sum_of(") SUM_OF.now text))))
 
 abbrev pub with_arguments : List ℕ → List ℕ
 with_arguments text =

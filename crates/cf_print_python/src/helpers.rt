@@ -11,7 +11,7 @@ use std::alloc::Global;
 fn with_numbers(alloc: Global, text: Vec<u8>) -> Result<Vec<u8>, NoMemory>
     ensures { IfOk result (λ all. all.items ≡ those_numbers text.items) }
 {
-    let text = with_helper(alloc, b"total(", texts::TOTAL, text)?;
+    let text = with_helper(alloc, b"sum_of(", texts::SUM_OF, text)?;
     let text = with_helper(alloc, b"fit(", texts::FIT, text)?;
     let text = with_helper(alloc, b"NoSolution", texts::NONE, text)?;
     let text = with_helper(alloc, b"-MAX <=", texts::MAX, text)?;

@@ -40,9 +40,9 @@ def fit(number: int) -> int:
 ";
 
 /// The sum of three numbers or more.
-pub const TOTAL: &[u8] = b"
+pub const SUM_OF: &[u8] = b"
 
-def total(*parts: int) -> int:
+def sum_of(*parts: int) -> int:
     \"\"\"The sum of the parts, where it is at most MAX in absolute value on its way from left to right.\"\"\"
     number = 0
     for part in parts:

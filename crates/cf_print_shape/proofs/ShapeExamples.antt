@@ -3,7 +3,7 @@ use Rattle.std.specs.Prelude.{ℕ, pos, ◌≡◌, true, false, Some, None, [], 
 use Rattle.cf_tree.specs.declared.base.Base.TheVariants.{Int, Bool as Truth}
 use Rattle.cf_tree.specs.CodeTree.{CodeTree, code_lit, code_truth, code_var, code_tuple, code_sum, code_card, codes_of}
 use Rattle.cf_stmt.specs.Blocks.{Block, give, none, leave, bind, part, join, test, arm}
-use Rattle.cf_print_shape.specs.Shapes.{block_reads, can_fall, exit_of, is_plain, is_straight, leaves_at_ends, number_of, results_of, those_read}
+use Rattle.cf_print_shape.specs.Shapes.{block_reads, can_fall, exit_of, is_if, is_plain, is_straight, leaves_at_ends, number_of, results_of, those_read}
 use Rattle.cf_print_shape.specs.Nones.{nones_of}
 use Rattle.cf_print_shape.specs.Sets.{block_uses_sets}
 use Rattle.cf_print_shape.specs.Wishes.{given_at}
@@ -46,6 +46,19 @@ ends = refl
 ends_here : exit_of GoesOn (none 3) ≡ Some (Ends 3)
 ends_here = refl
 
+-- ---- what stands within one `if`
+one_if : is_if (test truth (bind value value) leave) ≡ true
+one_if = refl
+
+behind_a_let : is_if (bind value (test truth value leave)) ≡ false
+behind_a_let = refl
+
+two_sides : is_if (test truth value value) ≡ false
+two_sides = refl
+
+behind_statements : is_if (test (bind value truth) value leave) ≡ false
+behind_statements = refl
+
 falls_at_last : can_fall (bind value (test truth leave value)) ≡ true
 falls_at_last = refl
 
@@ -54,6 +67,17 @@ later_ends = refl
 
 number : number_of (arm [] leave (none 4)) ≡ 4
 number = refl
+
+-- behind its lets the last arm is left by its guard
+number_behind_guards : number_of (arm [] leave (bind value (part value (test truth value (none 4))))) ≡ 4
+number_behind_guards = refl
+
+-- the sides of an `if` have numbers of their own
+number_of_no_choose : number_of (test truth (arm [] leave (none 3)) (arm [] leave (none 4))) ≡ 0
+number_of_no_choose = refl
+
+number_of_a_value_before : number_of (bind (none 4) value) ≡ 0
+number_of_a_value_before = refl
 
 -- ---- values behind lets and guards alone
 guarded : is_straight Falls (arm [] (bind value (test truth value leave)) (none 3)) ≡ true

@@ -8,10 +8,18 @@ use Rattle.cf_print_term.specs.Expressions.{base_of}
 use Rattle.cf_print_shape.specs.declared.exit.Exit.{Exit}
 use Rattle.cf_print_shape.specs.declared.exit.Exit.TheVariants.{GoesOn, Ends}
 
--- the number of a block of arms, and 0 of any other
+-- at which choose a block has no solution when it has none at once, and 0 of any other
+abbrev pub number_at_once : Block → ℕ
+number_at_once (none n) = n
+number_at_once b = 0
+
+-- the number of a block of arms, of whose last the lets and guards alone may be left, and 0 of any other
 abbrev pub number_of : Block → ℕ
 number_of (none n) = n
 number_of (arm ks a b) = number_of b
+number_of (bind a b) = number_of b
+number_of (part a b) = number_of b
+number_of (test t a b) = number_at_once b
 number_of b = 0
 
 abbrev pub is_none : Block → Option ℕ
@@ -21,6 +29,15 @@ is_none b = None
 abbrev pub is_leave : Block → Bool
 is_leave leave = true
 is_leave b = false
+
+abbrev pub is_code : Block → Bool
+is_code (give c) = true
+is_code b = false
+
+-- all that it declares stands within one `if`, behind which the arm is left
+abbrev pub is_if : Block → Bool
+is_if (test t a b) = is_code t && is_leave b
+is_if b = false
 
 -- what a block comes to that only leaves: no solution, or what leaving the arm comes to
 abbrev pub exit_of : Exit → Block → Option Exit

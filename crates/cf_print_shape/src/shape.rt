@@ -1,12 +1,28 @@
 //! What a block comes to, as its form shows.
 ghost use Rattle.std.specs.Prelude.{◌≡◌};
 ghost use Rattle.cf_stmt.specs.BlockView.{block_tree};
-ghost use Rattle.cf_print_shape.specs.Shapes.{can_fall as falls, exit_of as the_exit_of, gives as gives_values, is_leave as leaves, is_none as none_at, is_plain as plain, is_straight as straight, leaves_at_ends as at_ends, number_of as the_number_of};
+ghost use Rattle.cf_print_shape.specs.Shapes.{can_fall as falls, exit_of as the_exit_of, gives as gives_values, is_code as is_a_code, is_if as is_an_if, is_leave as leaves, is_none as none_at, is_plain as plain, is_straight as straight, leaves_at_ends as at_ends, number_at_once as the_number_at_once, number_of as the_number_of};
 
 use crate::exit::Exit;
 use cf_stmt::Block;
 
-/// The number of a block of arms, and 0 of any other.
+// At which choose a block has no solution when it has none at once, and 0 of any other.
+fn number_at_once(block: &Block) -> u32
+    ensures { result ≡ the_number_at_once (block_tree block.now) }
+{
+    match block {
+        Block::Stop(number) => *number,
+        Block::Give(_)
+        | Block::Leave
+        | Block::Bind(_, _)
+        | Block::Part(_, _)
+        | Block::Join(_, _)
+        | Block::Test { .. }
+        | Block::Arm { .. } => 0,
+    }
+}
+
+/// The number of a block of arms, of whose last the lets and guards alone may be left, and 0 of any other.
 #[cycle(number_of)]
 pub fn number_of(block: &Block) -> u32
     ensures { result ≡ the_number_of (block_tree block.now) }
@@ -14,12 +30,9 @@ pub fn number_of(block: &Block) -> u32
     match block {
         Block::Stop(number) => *number,
         Block::Arm { later, .. } => number_of(later),
-        Block::Give(_)
-        | Block::Leave
-        | Block::Bind(_, _)
-        | Block::Part(_, _)
-        | Block::Join(_, _)
-        | Block::Test { .. } => 0,
+        Block::Bind(_, later) | Block::Part(_, later) => number_of(later),
+        Block::Test { no, .. } => number_at_once(no),
+        Block::Give(_) | Block::Leave | Block::Join(_, _) => 0,
     }
 }
 
@@ -51,6 +64,38 @@ pub fn is_leave(block: &Block) -> bool
         | Block::Part(_, _)
         | Block::Join(_, _)
         | Block::Test { .. }
+        | Block::Arm { .. } => false,
+    }
+}
+
+// Whether the block gives the values of a code at once.
+fn is_code(block: &Block) -> bool
+    ensures { result ≡ is_a_code (block_tree block.now) }
+{
+    match block {
+        Block::Give(_) => true,
+        Block::Stop(_)
+        | Block::Leave
+        | Block::Bind(_, _)
+        | Block::Part(_, _)
+        | Block::Join(_, _)
+        | Block::Test { .. }
+        | Block::Arm { .. } => false,
+    }
+}
+
+/// Whether all that the block declares stands within one `if`, behind which it leaves the arm.
+pub fn is_if(block: &Block) -> bool
+    ensures { result ≡ is_an_if (block_tree block.now) }
+{
+    match block {
+        Block::Test { test, no, .. } => is_code(test) && is_leave(no),
+        Block::Give(_)
+        | Block::Stop(_)
+        | Block::Leave
+        | Block::Bind(_, _)
+        | Block::Part(_, _)
+        | Block::Join(_, _)
         | Block::Arm { .. } => false,
     }
 }

@@ -11,7 +11,7 @@ use Rattle.cf_print_term.specs.declared.table.Orders.{Orders}
 use Rattle.cf_print_term.specs.declared.table.SetForms.{SetForms}
 use Rattle.cf_print_term.specs.declared.table.Sign.{Sign}
 use Rattle.cf_print_term.specs.declared.table.Table.{Table}
-use Rattle.cf_print_term.specs.declared.table.TheConstants.{PYTHON, C as C_TABLE, JAVASCRIPT}
+use Rattle.cf_print_term.specs.declared.table.TheConstants.{PYTHON, C as C_TABLE, JAVASCRIPT, RUST}
 
 abbrev of_form : Form → List Sign
 of_form (Signed s) = s ∷ []
@@ -58,3 +58,6 @@ in_c = refl
 
 javascript : agree (between_signs JAVASCRIPT) && agree (before_signs JAVASCRIPT) ≡ true
 javascript = refl
+
+rust : agree (between_signs RUST) && agree (before_signs RUST) ≡ true
+rust = refl

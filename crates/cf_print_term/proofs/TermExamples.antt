@@ -1,13 +1,13 @@
 -- Worked examples of printed expressions in each language.
-use Rattle.std.specs.Prelude.{ℕ, pos, negsuc, ◌≡◌, true, false, List, [], ◌∷◌, refl, codes}
+use Rattle.std.specs.Prelude.{ℕ, pos, negsuc, ◌≡◌, true, false, List, [], ◌∷◌, map, refl, codes}
 use Rattle.std.specs.Fmt.{digits}
 use Rattle.cf_tree.specs.declared.base.Base.TheVariants.{Int, Bool as Truth, Set}
-use Rattle.cf_tree.specs.declared.base.Order.TheVariants.{Eq, Le, Ge}
+use Rattle.cf_tree.specs.declared.base.Order.TheVariants.{Eq, Ne, Lt, Le, Gt, Ge}
 use Rattle.cf_tree.specs.CodeTree.{CodeTree, code_lit, code_truth, code_var, code_set_of, code_sum, code_sub, code_mul, code_neg, code_div, code_mod, code_min, code_max, code_compare, code_divides, code_and, code_or, code_not, code_union, code_inter, code_diff, code_subset, code_card, code_slice, code_fresh, code_if, codes_of}
 use Rattle.cf_range.specs.Ranges.{whole, between as from_to}
 use Rattle.cf_print_term.specs.Terms.{text}
 use Rattle.cf_print_term.specs.Expressions.{Sight, term_of}
-use Rattle.cf_print_term.specs.declared.table.TheConstants.{PYTHON, C as C_TABLE, JAVASCRIPT}
+use Rattle.cf_print_term.specs.declared.table.TheConstants.{PYTHON, C as C_TABLE, JAVASCRIPT, RUST}
 
 abbrev var : ℕ → CodeTree
 var x = code_var x
@@ -34,6 +34,13 @@ in_c c = text (term_of C_TABLE known c)
 
 abbrev in_js : CodeTree → List ℕ
 in_js c = text (term_of JAVASCRIPT known c)
+
+abbrev in_rust : CodeTree → List ℕ
+in_rust c = text (term_of RUST known c)
+
+-- all comparisons of x and y
+abbrev compared : (CodeTree → List ℕ) → List (List ℕ)
+compared l = map (λ o. l (code_compare o (var 0) (var 1))) (Eq ∷ Ne ∷ Lt ∷ Le ∷ Gt ∷ Ge ∷ [])
 
 -- ---- numbers
 
@@ -103,6 +110,9 @@ comparison : python (code_compare Le (var 0) (code_if (var 2) (num 1) (num 2))) 
 unfolding digits
 comparison = refl
 
+signs : compared python ≡ codes "x == y" ∷ codes "x != y" ∷ codes "x < y" ∷ codes "x <= y" ∷ codes "x > y" ∷ codes "x >= y" ∷ []
+signs = refl
+
 comparisons : python (code_compare Eq (code_compare Le (var 0) (var 1)) (code_compare Eq (var 2) (code_truth false))) ≡
     codes "(x <= y) == (p == False)"
 unfolding digits
@@ -166,13 +176,13 @@ unfolding digits
 c_sum = refl
 
 -- one of more parts is one call, whose parts stand as they are
-total : python (sum (var 0 ∷ code_neg (var 1) ∷ num 1 ∷ [])) ≡ codes "total(x, -y, 1)"
+sum_of_three : python (sum (var 0 ∷ code_neg (var 1) ∷ num 1 ∷ [])) ≡ codes "sum_of(x, -y, 1)"
 unfolding digits
-total = refl
+sum_of_three = refl
 
-c_total : in_c (sum (var 0 ∷ code_neg (var 1) ∷ num 1 ∷ [])) ≡ codes "total((const whole[]){x, -y, 1, END}, &past)"
+c_sum_of : in_c (sum (var 0 ∷ code_neg (var 1) ∷ num 1 ∷ [])) ≡ codes "sum_of((const whole[]){x, -y, 1, END}, &past)"
 unfolding digits
-c_total = refl
+c_sum_of = refl
 
 c_numerals : in_c (sum (num 2 ∷ num 3 ∷ [])) ≡ codes "add(2, 3, &past)"
 unfolding digits
@@ -211,6 +221,9 @@ c_mixed : in_c (code_or (code_or (var 2) (code_and (var 2) (var 2))) (code_not (
 unfolding digits
 c_mixed = refl
 
+c_signs : compared in_c ≡ codes "x == y" ∷ codes "x != y" ∷ codes "x < y" ∷ codes "x <= y" ∷ codes "x > y" ∷ codes "x >= y" ∷ []
+c_signs = refl
+
 c_choice : in_c (code_if (var 2) (num 1) (var 1)) ≡ codes "p ? 1 : y"
 unfolding digits
 c_choice = refl
@@ -221,9 +234,9 @@ js_sum : in_js (sum (var 0 ∷ var 1 ∷ [])) ≡ codes "fit(x + y)"
 unfolding digits
 js_sum = refl
 
-js_total : in_js (sum (var 0 ∷ code_neg (var 1) ∷ num 1 ∷ [])) ≡ codes "total(x, -y, 1n)"
+js_sum_of : in_js (sum (var 0 ∷ code_neg (var 1) ∷ num 1 ∷ [])) ≡ codes "sum_of(x, -y, 1n)"
 unfolding digits
-js_total = refl
+js_sum_of = refl
 
 js_difference : in_js (code_sub (var 1) (code_sub (num 1) (var 1))) ≡ codes "y - (1n - y)"
 unfolding digits
@@ -240,6 +253,9 @@ js_quotients = refl
 js_down : in_js (code_mod (code_div (var 0) (pos 60)) (pos 7)) ≡ codes "mod(div(x, 60n), 7n)"
 unfolding digits
 js_down = refl
+
+js_signs : compared in_js ≡ codes "x === y" ∷ codes "x !== y" ∷ codes "x < y" ∷ codes "x <= y" ∷ codes "x > y" ∷ codes "x >= y" ∷ []
+js_signs = refl
 
 js_least : in_js (code_min (codes_of (var 0 ∷ num 3 ∷ var 1 ∷ []))) ≡ codes "least(x, 3n, y)"
 unfolding digits
@@ -269,3 +285,100 @@ js_sets_differ = refl
 js_subset : in_js (code_not (code_subset (var 3) (var 4))) ≡ codes "!subset(s, u)"
 unfolding digits
 js_subset = refl
+
+-- ---- Rust
+
+rust_sum : in_rust (sum (var 0 ∷ var 1 ∷ [])) ≡ codes "add(x, y)?"
+unfolding digits
+rust_sum = refl
+
+rust_sum_of : in_rust (sum (var 0 ∷ code_neg (var 1) ∷ num 1 ∷ [])) ≡ codes "sum_of(&[x, -y, 1])?"
+unfolding digits
+rust_sum_of = refl
+
+rust_difference : in_rust (code_sub (var 0) (code_mul (num 2) (var 0))) ≡ codes "sub(x, mul(2, x)?)?"
+unfolding digits
+rust_difference = refl
+
+rust_free : in_rust (code_mul (sum (var 1 ∷ num 5 ∷ [])) (code_sub (var 1) (code_mod (var 1) (pos 7)))) ≡ codes "(y + 5) * (y - y % 7)"
+unfolding digits
+rust_free = refl
+
+rust_numerals : in_rust (sum (num 2 ∷ num 3 ∷ [])) ≡ codes "add(2, 3)?"
+unfolding digits
+rust_numerals = refl
+
+rust_long : in_rust (code_lit (negsuc 2147483647)) ≡ codes "-2147483648_i128"
+unfolding digits
+rust_long = refl
+
+rust_short : in_rust (num 2147483647) ≡ codes "2147483647"
+unfolding digits
+rust_short = refl
+
+rust_down : in_rust (code_div (code_mod (var 0) (pos 7)) (pos 60)) ≡ codes "i128::rem_euclid(x, 7) / 60"
+unfolding digits
+rust_down = refl
+
+rust_quotient : in_rust (code_div (num 9) (pos 5)) ≡ codes "i128::div_euclid(9, 5)"
+unfolding digits
+rust_quotient = refl
+
+rust_least : in_rust (code_min (codes_of (var 0 ∷ num 3 ∷ var 1 ∷ []))) ≡ codes "i128::min(i128::min(x, 3), y)"
+unfolding digits
+rust_least = refl
+
+rust_greatest : in_rust (code_max (codes_of (num 3 ∷ var 1 ∷ []))) ≡ codes "i128::max(3, y)"
+unfolding digits
+rust_greatest = refl
+
+rust_signs : compared in_rust ≡ codes "x == y" ∷ codes "x != y" ∷ codes "x < y" ∷ codes "x <= y" ∷ codes "x > y" ∷ codes "x >= y" ∷ []
+rust_signs = refl
+
+rust_words : in_rust (code_or (code_truth false) (code_not (var 2))) ≡ codes "false || !p"
+unfolding digits
+rust_words = refl
+
+rust_mixed : in_rust (code_or (code_or (var 2) (code_and (var 2) (var 2))) (code_compare Ge (var 0) (num 0))) ≡ codes "p || (p && p) || x >= 0"
+unfolding digits
+rust_mixed = refl
+
+rust_denied : in_rust (code_not (code_and (var 2) (code_divides (pos 4) (var 1)))) ≡ codes "!(p && y % 4 == 0)"
+unfolding digits
+rust_denied = refl
+
+-- a choice stands alone in a choice, and in parentheses beside a sign
+rust_choice : in_rust (code_if (code_if (var 2) (var 2) (code_truth true)) (var 1) (num 2)) ≡ codes "if if p { p } else { true } { y } else { 2 }"
+unfolding digits
+rust_choice = refl
+
+rust_beside : in_rust (code_or (code_if (var 2) (var 2) (code_truth true)) (var 2)) ≡ codes "(if p { p } else { true }) || p"
+unfolding digits
+rust_beside = refl
+
+-- a set that is a variable is copied where one of its own is given
+rust_sets : in_rust (code_if (var 2) (var 3) (code_union (codes_of (var 3 ∷ var 4 ∷ var 3 ∷ [])))) ≡
+    codes "if p { s.clone() } else { union(union(s, u), s) }"
+unfolding digits
+rust_sets = refl
+
+rust_copied : in_rust (code_if (var 2) (var 3) (var 4)) ≡ codes "if p { s.clone() } else { u.clone() }"
+unfolding digits
+rust_copied = refl
+
+rust_set : in_rust (code_diff (code_set_of (codes_of (num 1 ∷ var 0 ∷ []))) (code_set_of (codes_of []))) ≡ codes "diff(BTreeSet::from([1, x]), BTreeSet::new())"
+unfolding digits
+rust_set = refl
+
+rust_same : in_rust (code_compare Eq (var 3) (code_inter (codes_of (var 3 ∷ var 4 ∷ [])))) ≡ codes "same(s, inter(s, u))"
+unfolding digits
+rust_same = refl
+
+rust_others : in_rust (code_not (code_compare Eq (var 3) (var 4))) ≡ codes "!same(s, u)"
+unfolding digits
+rust_others = refl
+
+rust_calls : in_rust (code_subset (code_slice (code_fresh (var 3) (num 2)) (code_card (var 4)) (num 1)) (var 3)) ≡
+    codes "subset(cut(fresh(s, 2), card(u), 1), s)"
+unfolding digits
+rust_calls = refl

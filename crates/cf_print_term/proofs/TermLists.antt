@@ -76,15 +76,15 @@ sum_of_two t w passes all (c ∷ d ∷ []) h g = refl
 sum_of_two t w passes all (c ∷ d ∷ e ∷ cs) h g = absurd (omega (arith, g))
 
 -- one of three parts or more, by a call on all of them
-by_total : (t : Table) (w : Sight) (all : Terms) (cs : List Code) → 3 ≤ length cs → call t.total all ≡ sum_of t w true all (code_trees cs)
-by_total t w all [] h = absurd (omega (arith, h))
-by_total t w all (c ∷ []) h = absurd (omega (arith, h))
-by_total t w all (c ∷ d ∷ []) h = absurd (omega (arith, h))
-by_total t w all (c ∷ d ∷ e ∷ cs) h = refl
+by_call : (t : Table) (w : Sight) (all : Terms) (cs : List Code) → 3 ≤ length cs → call t.sum_of all ≡ sum_of t w true all (code_trees cs)
+by_call t w all [] h = absurd (omega (arith, h))
+by_call t w all (c ∷ []) h = absurd (omega (arith, h))
+by_call t w all (c ∷ d ∷ []) h = absurd (omega (arith, h))
+by_call t w all (c ∷ d ∷ e ∷ cs) h = refl
 
-pub sum_by_total : (t : Table) (w : Sight) (passes : Bool) (all : Terms) (cs : List Code) → passes ≡ true → 3 ≤ length cs →
-    call t.total all ≡ sum_of t w passes all (code_trees cs)
-sum_by_total t w passes all cs e h = by_total t w all cs h ∙ ap (λ b. sum_of t w b all (code_trees cs)) (sym e)
+pub sum_called : (t : Table) (w : Sight) (passes : Bool) (all : Terms) (cs : List Code) → passes ≡ true → 3 ≤ length cs →
+    call t.sum_of all ≡ sum_of t w passes all (code_trees cs)
+sum_called t w passes all cs e h = by_call t w all cs h ∙ ap (λ b. sum_of t w b all (code_trees cs)) (sym e)
 
 -- one of three parts or more, part by part
 by_parts : (t : Table) (w : Sight) (all : Terms) (cs : List Code) → 3 ≤ length cs →

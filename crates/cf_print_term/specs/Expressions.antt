@@ -13,13 +13,14 @@ use Rattle.cf_print_term.specs.Terms.{Term, Terms, word, before, between, call, 
 use Rattle.cf_print_term.specs.Marks.{mark_text}
 use Rattle.cf_print_term.specs.declared.table.Sign.{Sign}
 use Rattle.cf_print_term.specs.declared.table.Choice.{Choice}
+use Rattle.cf_print_term.specs.declared.table.Call.{Call}
 use Rattle.cf_print_term.specs.declared.table.Form.{Form}
 use Rattle.cf_print_term.specs.declared.table.Form.TheVariants.{Signed, Fitted, Called, Nested}
 use Rattle.cf_print_term.specs.declared.table.Checked.{Checked}
 use Rattle.cf_print_term.specs.declared.table.Divided.{Divided}
 use Rattle.cf_print_term.specs.declared.table.Orders.{Orders}
 use Rattle.cf_print_term.specs.declared.table.Numerals.{Numerals}
-use Rattle.cf_print_term.specs.declared.table.Numerals.TheVariants.{Plain, Halved, Big}
+use Rattle.cf_print_term.specs.declared.table.Numerals.TheVariants.{Plain, Halved, Big, Suffixed}
 use Rattle.cf_print_term.specs.declared.table.Table.{Table}
 use Rattle.cf_print_term.specs.declared.numeral.TheConstants.{INT_END, LONG_END, MAX, HALF}
 
@@ -60,6 +61,7 @@ halves n = both_halves (decimal (n / HALF)) (decimal (n % HALF))
 abbrev pub numeral : Numerals → ℕ → List ℕ
 numeral Plain n = decimal n
 numeral Big n = decimal n ++ codes "n"
+numeral Suffixed n = if nat_lt n INT_END then decimal n else decimal n ++ codes "_i128"
 numeral Halved n =
     if nat_lt n INT_END then decimal n
     else if nat_lt n LONG_END then decimal n ++ codes "LL"
@@ -140,6 +142,25 @@ denied t None a = before t.not a
 
 abbrev pub choice_term : Choice → Term → Term → Term → Term
 choice_term k test a b = if k.test_first then choice k test a b else choice k a test b
+
+-- what stands around a term, where something does
+abbrev pub around : Option Call → Term → Term
+around None a = a
+around (Some c) a = call c (term_more a no_terms)
+
+-- a variable of a base where a value of its own is to be given: sets are lent, and so are copied
+abbrev pub copied : Table → Base → Term → Term
+copied t Set a = around t.sets.copy a
+copied t Int a = a
+copied t Truth a = a
+
+abbrev pub owned : Table → Sight → CodeTree → Term → Term
+owned t w (code_var x) a = copied t (slice_index_or w.bases x Int) a
+owned t w c a = a
+
+-- the one or the other of two codes, whose terms these are
+abbrev pub conditional : Table → Sight → CodeTree → CodeTree → Term → Term → Term → Term
+conditional t w a b test x y = around t.around_choice (choice_term t.choice test (owned t w a x) (owned t w b y))
 
 abbrev pub opposites : Sign → Option Term → Option Term → Option Term
 opposites s None b = None
@@ -222,7 +243,7 @@ abbrev mutual
   term_of t w (code_card a) = call t.sets.card (term_more (term_of t w a) no_terms)
   term_of t w (code_slice a b c) = call t.sets.slice (term_more (term_of t w a) (two (term_of t w b) (term_of t w c)))
   term_of t w (code_fresh a b) = call t.sets.fresh (two (term_of t w a) (term_of t w b))
-  term_of t w (code_if test a b) = choice_term t.choice (term_of t w test) (term_of t w a) (term_of t w b)
+  term_of t w (code_if test a b) = conditional t w a b (term_of t w test) (term_of t w a) (term_of t w b)
   -- these are no expressions
   term_of t w (code_tuple cs) = word []
   term_of t w (code_let first n a b) = word []
@@ -255,7 +276,7 @@ abbrev mutual
   sum_of t w passes all (code_more a (code_more b no_codes)) =
       first_two t (passes || both_small t a b) (below_of t w a) (term_of t w a) (below_of t w b) (term_of t w b)
   sum_of t w passes all (code_more a (code_more b (code_more c cs))) =
-      if passes then call t.total all
+      if passes then call t.sum_of all
       else sum_behind t w (first_two t (both_small t a b) (below_of t w a) (term_of t w a) (below_of t w b) (term_of t w b)) (code_more c cs)
 
   -- a sum that has come to a term, and all other parts

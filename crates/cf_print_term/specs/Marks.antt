@@ -1,5 +1,5 @@
 -- The texts of which tables are made.
-use Rattle.std.specs.Prelude.{ℕ, List, codes}
+use Rattle.std.specs.Prelude.{ℕ, List, [], codes}
 use Rattle.cf_print_term.specs.declared.mark.Mark.{Mark}
 
 abbrev pub mark_text : Mark → List ℕ
@@ -36,9 +36,9 @@ mark_text Mark.Add = codes "add("
 mark_text Mark.Sub = codes "sub("
 mark_text Mark.Mul = codes "mul("
 mark_text Mark.Fit = codes "fit("
-mark_text Mark.Total = codes "total("
-mark_text Mark.TotalOf = codes "total((const whole[]){"
-mark_text Mark.EndOfTotal = codes ", END}, &past)"
+mark_text Mark.SumOf = codes "sum_of("
+mark_text Mark.SumOfArray = codes "sum_of((const whole[]){"
+mark_text Mark.EndOfArray = codes ", END}, &past)"
 mark_text Mark.DivDown = codes "div_down("
 mark_text Mark.ModUp = codes "mod_up("
 mark_text Mark.Least = codes "least("
@@ -68,3 +68,19 @@ mark_text Mark.NoSet = codes "no_set("
 mark_text Mark.NoSets = codes "no_set()"
 mark_text Mark.End = codes ")"
 mark_text Mark.EndWithPast = codes ", &past)"
+mark_text Mark.DivEuclid = codes "i128::div_euclid("
+mark_text Mark.RemEuclid = codes "i128::rem_euclid("
+mark_text Mark.LeastOfTwo = codes "i128::min("
+mark_text Mark.GreatestOfTwo = codes "i128::max("
+mark_text Mark.SumOfSlice = codes "sum_of(&["
+mark_text Mark.EndOfSlice = codes "])?"
+mark_text Mark.EndAsked = codes ")?"
+mark_text Mark.IfBefore = codes "if "
+mark_text Mark.Then = codes " { "
+mark_text Mark.Otherwise = codes " } else { "
+mark_text Mark.EndOfBlock = codes " }"
+mark_text Mark.NewTree = codes "BTreeSet::new()"
+mark_text Mark.TreeOf = codes "BTreeSet::from(["
+mark_text Mark.EndOfTree = codes "])"
+mark_text Mark.Nothing = []
+mark_text Mark.Clone = codes ".clone()"

@@ -22,11 +22,12 @@ mutual
     no_terms : Terms
     term_more : Term → Terms → Terms
 
--- how tightly a term binds: a choice loosest, then by its sign, and words and calls tightest
+-- how tightly a term binds: a choice loosest, then by its sign or as its call does, and words tightest
 abbrev pub level : Term → ℕ
 level (before s a) = suc s.level
 level (between s a b) = suc s.level
 level (choice k a b c) = 0
+level (call c ts) = c.level
 level t = ATOM
 
 -- how tightly the parts at the sides of a sign have to bind, and those of a choice

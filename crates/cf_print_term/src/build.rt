@@ -2,7 +2,7 @@
 ghost use Rattle.std.specs.Prelude.{◌≡◌, IfOk, Option, Some, None, option_map};
 ghost use Rattle.cf_print_term.specs.Terms.{word, before, between, call, no_terms, term_more};
 ghost use Rattle.cf_print_term.specs.TermView.{term_tree, term_trees};
-ghost use Rattle.cf_print_term.specs.Expressions.{two, applied as applied_of, choice_term, sign_of, comparison as comparison_of, opposite as opposite_order, form_of};
+ghost use Rattle.cf_print_term.specs.Expressions.{two, applied as applied_of, choice_term, sign_of, comparison as comparison_of, opposite as opposite_order, form_of, around as around_of};
 
 use crate::table::{Call, Checked, Choice, Form, Orders, Sign, Table};
 use crate::term::Term;
@@ -107,6 +107,16 @@ pub(crate) fn chosen(
     } else {
         Term::Choice(choice, yes, test, no)
     })
+}
+
+/// A term with what stands around it, where something does.
+pub(crate) fn around(alloc: Global, callee: Option<Call>, part: Term) -> Result<Term, NoMemory>
+    ensures { IfOk result (λ t. term_tree t ≡ around_of callee (term_tree part)) }
+{
+    match callee {
+        None => Ok(part),
+        Some(callee) => call_on_one(alloc, callee, part),
+    }
 }
 
 /// The form of an operation where a number may be past the limit, or where none is.

@@ -8,10 +8,10 @@ ghost use Rattle.cf_range.specs.CodeRanges.{may_pass, range_of};
 ghost use Rattle.cf_print_term.specs.Terms.{word, before, between, call};
 ghost use Rattle.cf_print_term.specs.TermView.{term_tree, term_trees};
 ghost use Rattle.cf_print_term.specs.Summing.{two_summed, one_summed};
-ghost use Rattle.cf_print_term.specs.Expressions.{base_of as base, is_small, is_one_small, both_small, is_natural, below_zero, product as product_of, applied as applied_of, comparison as comparison_of, literal as literal_of, difference as difference_of, applied_on, applied_all, set_term, term_of as term, terms_of, opposite_of, opposites, below_of, sum_of, sum_behind, denied as denied_of, divided_term, division as division_of, form_of as form};
+ghost use Rattle.cf_print_term.specs.Expressions.{base_of as base, is_small, is_one_small, both_small, is_natural, below_zero, product as product_of, applied as applied_of, comparison as comparison_of, literal as literal_of, difference as difference_of, applied_on, applied_all, set_term, term_of as term, terms_of, opposite_of, opposites, below_of, sum_of, sum_behind, denied as denied_of, divided_term, division as division_of, form_of as form, copied as copied_of, owned as owned_of, conditional as conditional_of};
 
 use crate::build::{
-    applied, before, between, call_on_all, call_on_one, call_on_three, call_on_two, chosen,
+    applied, around, before, between, call_on_all, call_on_one, call_on_three, call_on_two, chosen,
     comparison, form_of, opposite, sign_of, word,
 };
 use crate::mark::bytes;
@@ -92,9 +92,9 @@ fn base_in(walk: &Walk<'_>, code: &Code) -> Base
     base_of(&scope.bases, code)
 }
 
-// Whether an expression is one of numerals alone.
+/// Whether an expression is one of numerals alone.
 #[cycle(is_small)]
-fn is_small(code: &Code) -> bool
+pub fn is_small(code: &Code) -> bool
     ensures { result ≡ is_small (code_tree code.now) }
 {
     match code {
@@ -231,6 +231,47 @@ fn sum_passes(walk: &Walk<'_>, code: &Code) -> bool
     may_pass(&scope.ranges, code)
 }
 
+// A variable of a base where a value of its own is to be given.
+fn copied(walk: &Walk<'_>, base: Base, part: Term) -> Result<Term, NoMemory>
+    ensures { IfOk result (λ t. term_tree t ≡ copied_of walk.now.table.now base (term_tree part)) }
+{
+    let table = walk.table;
+    match base {
+        Base::Set => around(walk.alloc, table.sets.copy, part),
+        Base::Int | Base::Bool => Ok(part),
+    }
+}
+
+// The term of a code where a value of its own is to be given.
+fn owned(walk: &Walk<'_>, code: &Code, part: Term) -> Result<Term, NoMemory>
+    ensures { IfOk result (λ t. term_tree t ≡ owned_of walk.now.table.now walk.now.scope.now (code_tree code.now) (term_tree part)) }
+{
+    match code {
+        Code::Var(x) => {
+            let scope = walk.scope;
+            copied(walk, base_at(&scope.bases, *x), part)
+        }
+        _ => Ok(part),
+    }
+}
+
+// The one or the other of two codes, whose terms stand behind that of a test.
+fn conditional(walk: &Walk<'_>, yes: &Code, no: &Code, parts: ThreeTerms) -> Result<Term, NoMemory>
+    ensures { IfOk result (λ t. term_tree t ≡ conditional_of walk.now.table.now walk.now.scope.now (code_tree yes.now) (code_tree no.now)
+        (term_tree parts.first) (term_tree parts.second) (term_tree parts.third)) }
+{
+    let table = walk.table;
+    let ThreeTerms {
+        first,
+        second,
+        third,
+    } = parts;
+    let second = owned(walk, yes, second)?;
+    let third = owned(walk, no, third)?;
+    let choice = chosen(walk.alloc, table.choice, first, second, third)?;
+    around(walk.alloc, table.around_choice, choice)
+}
+
 /// The term of an expression.
 #[cycle(term_of)]
 pub fn term_of(walk: &Walk<'_>, code: &Code) -> Result<Term, NoMemory>
@@ -293,13 +334,7 @@ pub fn term_of(walk: &Walk<'_>, code: &Code) -> Result<Term, NoMemory>
             let first = term_of(walk, test)?;
             let two = two_terms(walk, yes, first)?;
             let parts = three_terms(walk, no, two)?;
-            chosen(
-                walk.alloc,
-                table.choice,
-                parts.first,
-                parts.second,
-                parts.third,
-            )
+            conditional(walk, yes, no, parts)
         }
         Code::Tuple(_) | Code::Let { .. } | Code::Solve { .. } => word(walk.alloc, b""),
     }
@@ -472,7 +507,7 @@ fn sum(walk: &Walk<'_>, parts: &[Code], passes: bool) -> Result<Term, NoMemory>
         [only] => term_of(walk, only),
         [_, _] => two_summed(walk, parts, passes),
         [_, _, _, ..] => if passes {
-            total(walk, parts)
+            sum_by_call(walk, parts)
         } else {
             let start = two_summed(walk, parts, false)?;
             sum_behind(walk, parts, start)
@@ -482,13 +517,13 @@ fn sum(walk: &Walk<'_>, parts: &[Code], passes: bool) -> Result<Term, NoMemory>
 
 // A sum by a call on all its parts.
 #[cycle(term_of)]
-fn total(walk: &Walk<'_>, parts: &[Code]) -> Result<Term, NoMemory>
+fn sum_by_call(walk: &Walk<'_>, parts: &[Code]) -> Result<Term, NoMemory>
     ensures { IfOk result (λ t. term_tree t ≡
-        call walk.now.table.now.total (terms_of walk.now.table.now walk.now.scope.now (code_trees parts.now))) }
+        call walk.now.table.now.sum_of (terms_of walk.now.table.now walk.now.scope.now (code_trees parts.now))) }
 {
     let table = walk.table;
     let all = terms(walk, parts)?;
-    Ok(call_on_all(table.total, all))
+    Ok(call_on_all(table.sum_of, all))
 }
 
 // The sum of the first two parts, of which only what is printed is made.

@@ -12,7 +12,7 @@ mod table;
 mod term;
 mod text;
 
-pub use crate::expression::{Walk, base_of, not, term_of};
+pub use crate::expression::{Walk, base_of, is_small, not, term_of};
 pub use crate::laws::texts_read_back;
 pub use crate::mark::{Mark, bytes};
 pub use crate::numeral::INT_END;

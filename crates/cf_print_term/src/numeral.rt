@@ -51,6 +51,15 @@ fn put_numeral(out: &mut Vec<u8>, numerals: Numerals, number: u128) -> Result<()
             out.extend_from_slice(b"n")?;
             Ok(())
         }
+        Numerals::Suffixed => {
+            if number < INT_END {
+                put_count(out, number)
+            } else {
+                put_count(out, number)?;
+                out.extend_from_slice(b"_i128")?;
+                Ok(())
+            }
+        }
         Numerals::Halved => {
             if number < INT_END {
                 put_count(out, number)

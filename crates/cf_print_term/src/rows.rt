@@ -2,7 +2,7 @@
 ghost use Rattle.std.specs.Prelude.{◌≡◌};
 ghost use Rattle.cf_print_term.specs.Rows.{table_of as table};
 
-use crate::table::{C, JAVASCRIPT, PYTHON, Table};
+use crate::table::{C, JAVASCRIPT, PYTHON, RUST, Table};
 use cf_print::Language;
 
 /// The expressions of a language.
@@ -13,5 +13,6 @@ pub fn table_of(language: Language) -> Table
         Language::C => C,
         Language::Python => PYTHON,
         Language::JavaScript => JAVASCRIPT,
+        Language::Rust => RUST,
     }
 }

@@ -12,11 +12,12 @@ pub struct Sign {
     pub chains: bool,
 }
 
-/// What stands before and behind the arguments of a call.
+/// What stands before and behind the arguments of a call, and how tightly it binds.
 #[derive(Clone, Copy)]
 pub struct Call {
     pub opening: Mark,
     pub closing: Mark,
+    pub level: u32,
 }
 
 /// How an operation on parts is written.
@@ -81,6 +82,8 @@ pub struct SetForms {
     pub card: Call,
     pub slice: Call,
     pub fresh: Call,
+    /// How a variable is copied where a set of its own is to be given.
+    pub copy: Option<Call>,
 }
 
 /// How a language writes numbers.
@@ -90,6 +93,8 @@ pub enum Numerals {
     Plain,
     /// As C types them: `int`, then `long long`, then two halves.
     Halved,
+    /// Digits, and behind those past `i32` their type.
+    Suffixed,
     /// Digits and an `n`.
     Big,
 }
@@ -109,7 +114,7 @@ pub struct Table {
     pub orders: Orders,
     pub sum: Checked,
     /// A sum of three parts or more that may pass the limit on its way.
-    pub total: Call,
+    pub sum_of: Call,
     pub difference: Checked,
     pub product: Checked,
     pub quotient: Divided,
@@ -119,6 +124,8 @@ pub struct Table {
     pub least: Form,
     pub greatest: Form,
     pub choice: Choice,
+    /// What stands around a choice.
+    pub around_choice: Option<Call>,
     pub sets: SetForms,
 }
 
@@ -141,8 +148,11 @@ const MULTIPLY: u8 = 7;
 
 const UNARY: u8 = 8;
 
-/// What binds tightest: words and calls.
+/// What binds tightest: words, and nearly all calls.
 pub const ATOM: u32 = 10;
+
+// How tightly a choice binds that is the argument of a call: what may be a part of another choice.
+const CHOICE: u32 = 1;
 
 // A sign whose sides bind tighter than it, but for a chain of its level at the left.
 macro_rules! chain {
@@ -173,6 +183,7 @@ macro_rules! call {
         Call {
             opening: $opening,
             closing: Mark::End,
+            level: ATOM,
         }
     };
 }
@@ -195,6 +206,21 @@ macro_rules! flagged {
             checked: Form::Nested(Call {
                 opening: $opening,
                 closing: Mark::EndWithPast,
+                level: ATOM,
+            }),
+        }
+    };
+}
+
+// A sign between numbers, or a call of a helper that may fail.
+macro_rules! asked {
+    ($sign:expr, $opening:expr) => {
+        Checked {
+            free: Form::Signed($sign),
+            checked: Form::Nested(Call {
+                opening: $opening,
+                closing: Mark::EndAsked,
+                level: ATOM,
             }),
         }
     };
@@ -219,7 +245,7 @@ pub const PYTHON: Table = Table {
         ge: alone!(Mark::AtLeast, COMPARE),
     },
     sum: fitted!(chain!(Mark::Plus, ADD)),
-    total: call!(Mark::Total),
+    sum_of: call!(Mark::SumOf),
     difference: fitted!(chain!(Mark::Minus, ADD)),
     product: fitted!(chain!(Mark::Star, MULTIPLY)),
     quotient: Divided {
@@ -238,11 +264,13 @@ pub const PYTHON: Table = Table {
         first: Mark::If,
         second: Mark::Else,
     },
+    around_choice: None,
     sets: SetForms {
         empty: Mark::EmptySet,
         of: Call {
             opening: Mark::SetOf,
             closing: Mark::EndOfSet,
+            level: ATOM,
         },
         union: Form::Signed(chain!(Mark::Bar, BAR)),
         inter: Form::Signed(chain!(Mark::Ampersand, BOTH)),
@@ -253,6 +281,7 @@ pub const PYTHON: Table = Table {
         card: call!(Mark::Len),
         slice: call!(Mark::Cut),
         fresh: call!(Mark::Fresh),
+        copy: None,
     },
 };
 
@@ -288,9 +317,10 @@ pub const C: Table = Table {
         ge: alone!(Mark::AtLeast, COMPARE),
     },
     sum: flagged!(chain!(Mark::Plus, ADD), Mark::Add),
-    total: Call {
-        opening: Mark::TotalOf,
-        closing: Mark::EndOfTotal,
+    sum_of: Call {
+        opening: Mark::SumOfArray,
+        closing: Mark::EndOfArray,
+        level: ATOM,
     },
     difference: flagged!(chain!(Mark::Minus, ADD), Mark::Sub),
     product: flagged!(chain!(Mark::Star, MULTIPLY), Mark::Mul),
@@ -310,6 +340,7 @@ pub const C: Table = Table {
         first: Mark::Question,
         second: Mark::Colon,
     },
+    around_choice: None,
     sets: SetForms {
         empty: Mark::NoSets,
         of: no_set!(),
@@ -322,6 +353,7 @@ pub const C: Table = Table {
         card: no_set!(),
         slice: no_set!(),
         fresh: no_set!(),
+        copy: None,
     },
 };
 
@@ -344,7 +376,7 @@ pub const JAVASCRIPT: Table = Table {
         ge: alone!(Mark::AtLeast, COMPARE),
     },
     sum: fitted!(chain!(Mark::Plus, ADD)),
-    total: call!(Mark::Total),
+    sum_of: call!(Mark::SumOf),
     difference: fitted!(chain!(Mark::Minus, ADD)),
     product: fitted!(chain!(Mark::Star, MULTIPLY)),
     quotient: Divided {
@@ -363,6 +395,7 @@ pub const JAVASCRIPT: Table = Table {
         first: Mark::Question,
         second: Mark::Colon,
     },
+    around_choice: None,
     sets: SetForms {
         empty: Mark::NewSet,
         of: call!(Mark::SetOfAll),
@@ -375,5 +408,83 @@ pub const JAVASCRIPT: Table = Table {
         card: call!(Mark::Card),
         slice: call!(Mark::Cut),
         fresh: call!(Mark::Fresh),
+        copy: None,
+    },
+};
+
+/// Rust. A choice stands at the left of no sign, since a statement may begin there.
+pub const RUST: Table = Table {
+    numerals: Numerals::Suffixed,
+    is_typed: true,
+    yes: Mark::SmallTrue,
+    no: Mark::SmallFalse,
+    minus: alone!(Mark::Dash, UNARY),
+    not: alone!(Mark::Bang, UNARY),
+    and: chain!(Mark::TwoAmpersands, NOT),
+    // so that `&&` stands in parentheses in it
+    or: Sign {
+        text: Mark::TwoBars,
+        level: AND,
+        more: 1,
+        chains: true,
+    },
+    orders: Orders {
+        eq: alone!(Mark::Equal, COMPARE),
+        ne: alone!(Mark::NotEqual, COMPARE),
+        lt: alone!(Mark::Less, COMPARE),
+        le: alone!(Mark::AtMost, COMPARE),
+        gt: alone!(Mark::Greater, COMPARE),
+        ge: alone!(Mark::AtLeast, COMPARE),
+    },
+    sum: asked!(chain!(Mark::Plus, ADD), Mark::Add),
+    sum_of: Call {
+        opening: Mark::SumOfSlice,
+        closing: Mark::EndOfSlice,
+        level: ATOM,
+    },
+    difference: asked!(chain!(Mark::Minus, ADD), Mark::Sub),
+    product: asked!(chain!(Mark::Star, MULTIPLY), Mark::Mul),
+    quotient: Divided {
+        down: Form::Called(call!(Mark::DivEuclid)),
+        natural: Form::Signed(chain!(Mark::Slash, MULTIPLY)),
+    },
+    remainder: Divided {
+        down: Form::Called(call!(Mark::RemEuclid)),
+        natural: Form::Signed(chain!(Mark::Percent, MULTIPLY)),
+    },
+    rest: chain!(Mark::Percent, MULTIPLY),
+    least: Form::Nested(call!(Mark::LeastOfTwo)),
+    greatest: Form::Nested(call!(Mark::GreatestOfTwo)),
+    choice: Choice {
+        test_first: true,
+        first: Mark::Then,
+        second: Mark::Otherwise,
+    },
+    around_choice: Some(Call {
+        opening: Mark::IfBefore,
+        closing: Mark::EndOfBlock,
+        level: CHOICE,
+    }),
+    sets: SetForms {
+        empty: Mark::NewTree,
+        of: Call {
+            opening: Mark::TreeOf,
+            closing: Mark::EndOfTree,
+            level: ATOM,
+        },
+        union: Form::Nested(call!(Mark::Union)),
+        inter: Form::Nested(call!(Mark::Inter)),
+        diff: Form::Called(call!(Mark::Diff)),
+        subset: Form::Called(call!(Mark::Subset)),
+        same: Form::Called(call!(Mark::Same)),
+        other: Form::Called(call!(Mark::Other)),
+        card: call!(Mark::Card),
+        slice: call!(Mark::Cut),
+        fresh: call!(Mark::Fresh),
+        copy: Some(Call {
+            opening: Mark::Nothing,
+            closing: Mark::Clone,
+            level: ATOM,
+        }),
     },
 };

@@ -18,7 +18,8 @@ fn level(term: &Term) -> u32
     match term {
         Term::Before(sign, _) | Term::Between(sign, _, _) => u32::from(sign.level) + 1,
         Term::Choice(_, _, _, _) => 0,
-        Term::Word(_) | Term::Call(_, _) => ATOM,
+        Term::Call(call, _) => call.level,
+        Term::Word(_) => ATOM,
     }
 }
 

@@ -1,5 +1,5 @@
 -- Blocks that may stand for others.
-use Rattle.std.proofs.Common.{◌≡◌, ℕ, Bool, true, false, ◌&&◌, cond, Option, Some, None, List, [], ◌∷◌, ◌++◌, length, nat_eq, refl, sym, ap, ◌∙◌}
+use Rattle.std.proofs.Common.{◌≡◌, ℕ, Bool, true, false, ◌&&◌, cond, Option, Some, None, List, [], ◌∷◌, ◌++◌, length, nat_eq, refl, sym, ap, subst, ◌∙◌}
 use Rattle.std.proofs.Math.Nat.{max-zero}
 use Rattle.std.proofs.lemmas.Bool.{eqb-true}
 use Rattle.cf_tree.specs.Meaning.{Got, got, none_at, Path, gives_only, then_gives, then_path, if_some, or_later, first_from, count_below, tuple_at, meets_all, truth_in, gives_truth, path}
@@ -7,8 +7,8 @@ use Rattle.cf_tree.specs.CodeTree.{CodeTree, code_and}
 use Rattle.cf_tree.specs.Values.{Value, truth, first_of}
 use Rattle.cf_stmt.specs.Blocks.{Block, give, none, leave, bind, part, join, test, arm, given, exec}
 use Rattle.cf_stmt.specs.Expressions.{EvaluatesPlain}
-use Rattle.cf_stmt.specs.Fitting.{fits}
-use Rattle.cf_stmt.specs.Guards.{StandsFor, and_test, else_none, ends_alike, gives_part, guarded, guarded_arm, guarded_test, is_leave, is_none, never_leaves, single_arm, stop_of, tests_so}
+use Rattle.cf_stmt.specs.Fitting.{fits, fit_together}
+use Rattle.cf_stmt.specs.Guards.{StandsFor, are_one, both_given, else_none, ends_alike, guarded, guarded_arm, is_leave, is_none, is_test, never_leaves, single_arm, stop_of, tested}
 use Rattle.cf_stmt.proofs.GuardLaws.{last_arm, nil_after, or_nothing}
 use Rattle.cf_stmt.proofs.Parts.{Found}
 use Rattle.cf_stmt.proofs.PlainBlocks.{over_two_parts}
@@ -237,51 +237,63 @@ both_same c d a b env =
     ∙ sym (given_then (path c env) (λ x. cond (truth_in x) (exec (test (give d) a b) env) (exec b env)))))
 
 stands_both : (c d : CodeTree) (a l b : Block) → fits 1 c ≡ true → fits 1 d ≡ true → l ≡ b →
-    StandsFor (test (give c) (test (give d) a l) b) (test (give (code_and c d)) a l)
+    StandsFor (test (give c) (test (give d) a l) b) (test (give (code_and c d)) a b)
 stands_both c d a l b h k e = rw e (record { same = both_same c d a b; plain = λ p. (over_two_parts c d h k, p.1.1, p.2) })
 
-and_stands : (t a b : Block) → gives_part t ≡ true → tests_so a b ≡ true → StandsFor (test t a b) (and_test t a)
-and_stands (give c) (test (give d) x y) b h k = stands_both c d x y b h (both_left (fits 1 d) _ k) (ends_are y b (both_right (fits 1 d) _ k))
-and_stands (give c) (test (none n) x y) b h k = absurd (not_true k)
-and_stands (give c) (test leave x y) b h k = absurd (not_true k)
-and_stands (give c) (test (bind v w) x y) b h k = absurd (not_true k)
-and_stands (give c) (test (part v w) x y) b h k = absurd (not_true k)
-and_stands (give c) (test (join v w) x y) b h k = absurd (not_true k)
-and_stands (give c) (test (test u v w) x y) b h k = absurd (not_true k)
-and_stands (give c) (test (arm ks v w) x y) b h k = absurd (not_true k)
-and_stands (give c) (give d) b h k = absurd (not_true k)
-and_stands (give c) (none n) b h k = absurd (not_true k)
-and_stands (give c) leave b h k = absurd (not_true k)
-and_stands (give c) (bind x y) b h k = absurd (not_true k)
-and_stands (give c) (part x y) b h k = absurd (not_true k)
-and_stands (give c) (join x y) b h k = absurd (not_true k)
-and_stands (give c) (arm ks x y) b h k = absurd (not_true k)
-and_stands (none n) a b h k = absurd (not_true h)
-and_stands leave a b h k = absurd (not_true h)
-and_stands (bind x y) a b h k = absurd (not_true h)
-and_stands (part x y) a b h k = absurd (not_true h)
-and_stands (join x y) a b h k = absurd (not_true h)
-and_stands (test t x y) a b h k = absurd (not_true h)
-and_stands (arm ks x y) a b h k = absurd (not_true h)
+one_stands : (t u a l b : Block) → are_one t u l b ≡ true → StandsFor (test t (test u a l) b) (test (both_given t u) a b)
+one_stands (give c) (give d) a l b h =
+    let fit : fit_together c d ≡ true = both_left (fit_together c d) _ h in
+    let each : fits 1 c && fits 1 d ≡ true = both_left (fits 1 c && fits 1 d) _ fit in
+    stands_both c d a l b (both_left (fits 1 c) _ each) (both_right (fits 1 c) _ each) (ends_are l b (both_right (fit_together c d) _ h))
+one_stands t u a l b h = absurd (not_true h)
 
-test_stands : (t a b : Block) → StandsFor (test t a b) (guarded_test t a b)
-test_stands t a b = by (gives_part t && tests_so a b) refl
+yes_stands : (t a b c : Block) → StandsFor a c → StandsFor (test t a b) (test t c b)
+yes_stands t a b c s = stands_test t a b t c b (stands_self t) s (stands_self b)
+
+-- one test of both, or the one within the other
+one_or_two : (t u a l b one two : Block) → StandsFor (test (both_given t u) a b) one → StandsFor (test u a l) two →
+    StandsFor (test t (test u a l) b) (cond (are_one t u l b) one (test t two b))
+one_or_two t u a l b one two s r = by (are_one t u l b) refl
   where
-    by : (s : Bool) → gives_part t && tests_so a b ≡ s → StandsFor (test t a b) (cond s (and_test t a) (test t a b))
-    by true h = and_stands t a b (both_left (gives_part t) _ h) (both_right (gives_part t) _ h)
-    by false h = stands_self (test t a b)
+    by : (o : Bool) → are_one t u l b ≡ o → StandsFor (test t (test u a l) b) (cond o one (test t two b))
+    by true h = stands_then (test t (test u a l) b) (test (both_given t u) a b) one (one_stands t u a l b h) s
+    by false h = yes_stands t (test u a l) b two r
+
+pub not_tested : (t a b : Block) → is_test a ≡ false → test t (guarded a) b ≡ tested t a b
+not_tested t (test u x y) b h = absurd (not_true (sym h))
+not_tested t a b h = refl
+
+pub twice_tested : (t u v x y z b : Block) → v ≡ guarded u → z ≡ guarded y →
+    cond (are_one t v z b) (tested (both_given t v) x b) (test t (tested v x z) b) ≡ tested t (test u x y) b
+twice_tested t u v x y z b e f = rw (e, f) refl
+
+-- ---- a block with guards, alone and between two as a test
+abbrev Stands : Block → Type 0
+Stands a = StandsFor a (guarded a) × ((t b : Block) → StandsFor (test t a b) (tested t a b))
+
+alone : (a : Block) → is_test a ≡ false → StandsFor a (guarded a) → Stands a
+alone a h s = (s, λ t b. subst (StandsFor (test t a b)) (not_tested t a b h) (yes_stands t a b (guarded a) s))
+
+both_stand : (a : Block) → Stands a
+both_stand (give c) = alone (give c) refl (stands_self (give c))
+both_stand (none n) = alone (none n) refl (stands_self (none n))
+both_stand leave = alone leave refl (stands_self leave)
+both_stand (bind a b) = alone (bind a b) refl (stands_bind a b (guarded a) (guarded b) (both_stand a).0 (both_stand b).0)
+both_stand (part a b) = alone (part a b) refl (stands_part a b (guarded a) (guarded b) (both_stand a).0 (both_stand b).0)
+both_stand (join a b) = alone (join a b) refl (stands_join a b (guarded a) (guarded b) (both_stand a).0 (both_stand b).0)
+both_stand (arm ks a b) =
+    alone (arm ks a b) refl
+    (stands_then (arm ks a b) (arm ks (guarded a) (guarded b)) (guarded_arm ks (guarded a) (guarded b))
+    (stands_arm ks a b (guarded a) (guarded b) (both_stand a).0 (both_stand b).0) (arm_stands ks (guarded a) (guarded b)))
+both_stand (test u a l) =
+    let around : StandsFor (test u a l) (test (guarded u) a (guarded l)) =
+    stands_test u a l (guarded u) a (guarded l) (both_stand u).0 (stands_self a) (both_stand l).0 in (
+      stands_then (test u a l) (test (guarded u) a (guarded l)) (tested (guarded u) a (guarded l)) around ((both_stand a).1 (guarded u) (guarded l)),
+      λ t b. stands_then (test t (test u a l) b) (test t (test (guarded u) a (guarded l)) b) (tested t (test u a l) b)
+          (yes_stands t (test u a l) b (test (guarded u) a (guarded l)) around)
+          (one_or_two t (guarded u) a (guarded l) b (tested (both_given t (guarded u)) a b) (tested (guarded u) a (guarded l))
+          ((both_stand a).1 (both_given t (guarded u)) b) ((both_stand a).1 (guarded u) (guarded l))),
+    )
 
 pub guarded_stands : (b : Block) → StandsFor b (guarded b)
-guarded_stands (give c) = stands_self (give c)
-guarded_stands (none n) = stands_self (none n)
-guarded_stands leave = stands_self leave
-guarded_stands (bind a b) = stands_bind a b (guarded a) (guarded b) (guarded_stands a) (guarded_stands b)
-guarded_stands (part a b) = stands_part a b (guarded a) (guarded b) (guarded_stands a) (guarded_stands b)
-guarded_stands (join a b) = stands_join a b (guarded a) (guarded b) (guarded_stands a) (guarded_stands b)
-guarded_stands (test t a b) =
-    stands_then (test t a b) (test (guarded t) (guarded a) (guarded b)) (guarded_test (guarded t) (guarded a) (guarded b))
-    (stands_test t a b (guarded t) (guarded a) (guarded b) (guarded_stands t) (guarded_stands a) (guarded_stands b))
-    (test_stands (guarded t) (guarded a) (guarded b))
-guarded_stands (arm ks a b) =
-    stands_then (arm ks a b) (arm ks (guarded a) (guarded b)) (guarded_arm ks (guarded a) (guarded b))
-    (stands_arm ks a b (guarded a) (guarded b) (guarded_stands a) (guarded_stands b)) (arm_stands ks (guarded a) (guarded b))
+guarded_stands b = (both_stand b).0

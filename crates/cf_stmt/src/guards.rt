@@ -1,13 +1,14 @@
 //! Blocks written as by hand: the last arm without a search has guards, nothing stands behind an
-//! arm that is never left, and tests side by side are one.
-ghost use Rattle.std.specs.Prelude.{◌≡◌, IfOk};
+//! arm that is never left, and small tests side by side are one.
+ghost use Rattle.std.specs.Prelude.{◌≡◌, IfOk, if◌then◌else◌};
 ghost use Rattle.cf_stmt.specs.BlockView.{block_tree};
-ghost use Rattle.cf_stmt.specs.Blocks.{arm as arm_of, leave as leave_of, none as none_of};
-ghost use Rattle.cf_stmt.specs.Guards.{and_test, both_given, else_none, ends_alike, gives_part, guarded, guarded_arm, guarded_test, is_leave, is_none, never_leaves, single_arm, stop_of, tests_so};
+ghost use Rattle.cf_tree.specs.CodeView.{code_tree};
+ghost use Rattle.cf_stmt.specs.Blocks.{arm as arm_of, give as give_of, test as test_of};
+ghost use Rattle.cf_stmt.specs.Guards.{are_one, both_given, else_none, ends_alike, give_together, guarded, guarded_arm, is_leave, is_none, is_test, never_leaves, single_arm, stop_of, tested};
 
 use crate::block::Block;
 use crate::boxed::{bind, join, part, test};
-use crate::expression::fits;
+use crate::expression::fit_together;
 use cf_tree::{Code, NoMemory};
 use std::alloc::Global;
 
@@ -37,9 +38,8 @@ pub(crate) fn guarded(alloc: Global, block: Box<Block>) -> Result<Box<Block>, No
         }
         Block::Test { test, yes, no } => {
             let test = guarded(alloc, test)?;
-            let yes = guarded(alloc, yes)?;
             let no = guarded(alloc, no)?;
-            guarded_test(alloc, test, yes, no)
+            tested(alloc, test, yes, no)
         }
         Block::Arm {
             bounds,
@@ -51,6 +51,60 @@ pub(crate) fn guarded(alloc: Global, block: Box<Block>) -> Result<Box<Block>, No
             guarded_arm(alloc, bounds, body, later)
         }
     }
+}
+
+// The block between two that are guarded, as a test: it takes in the tests behind it as long as they are one.
+#[cycle(guarded)]
+#[tactic(auto, using(crate::proofs::StandsLaws::not_tested, crate::proofs::StandsLaws::twice_tested))]
+fn tested(
+    alloc: Global,
+    first: Box<Block>,
+    yes: Box<Block>,
+    no: Box<Block>,
+) -> Result<Box<Block>, NoMemory>
+    ensures { IfOk result (λ b. block_tree b.value ≡ tested (block_tree first.value) (block_tree yes.value) (block_tree no.value)) }
+{
+    if !is_test(&yes) {
+        let yes = guarded(alloc, yes)?;
+        return test(alloc, first, yes, no);
+    }
+    match Box::into_inner(yes) {
+        Block::Test {
+            test: second,
+            yes: inner,
+            no: last,
+        } => {
+            let second = guarded(alloc, second)?;
+            let last = guarded(alloc, last)?;
+            tested_twice(alloc, first, second, inner, last, no)
+        }
+        // for the proof: no other form comes here
+        _ => Err(NoMemory),
+    }
+}
+
+// The same where a second test stands there.
+#[cycle(guarded)]
+fn tested_twice(
+    alloc: Global,
+    first: Box<Block>,
+    second: Box<Block>,
+    yes: Box<Block>,
+    last: Box<Block>,
+    no: Box<Block>,
+) -> Result<Box<Block>, NoMemory>
+    ensures { IfOk result (λ b. block_tree b.value ≡
+        (if are_one (block_tree first.value) (block_tree second.value) (block_tree last.value) (block_tree no.value)
+        then tested (both_given (block_tree first.value) (block_tree second.value)) (block_tree yes.value) (block_tree no.value)
+        else test_of (block_tree first.value) (tested (block_tree second.value) (block_tree yes.value) (block_tree last.value)) (block_tree no.value))) }
+{
+    if are_one(&first, &second, &last, &no) {
+        drop(last);
+        let both = both_given(alloc, first, second)?;
+        return tested(alloc, both, yes, no);
+    }
+    let yes = tested(alloc, second, yes, last)?;
+    test(alloc, first, yes, no)
 }
 
 // ---- arms
@@ -191,35 +245,14 @@ fn never_leaves(block: &Block) -> bool
 }
 
 // ---- tests
-fn guarded_test(
-    alloc: Global,
-    first: Box<Block>,
-    yes: Box<Block>,
-    no: Box<Block>,
-) -> Result<Box<Block>, NoMemory>
-    ensures { IfOk result (λ b. block_tree b.value ≡ guarded_test (block_tree first.value) (block_tree yes.value) (block_tree no.value)) }
+fn is_test(block: &Block) -> bool
+    ensures { result ≡ is_test (block_tree block.now) }
 {
-    if gives_part(&first) && tests_so(&yes, &no) {
-        return and_test(alloc, first, yes);
-    }
-    test(alloc, first, yes, no)
-}
-
-// The test within the second block, behind the first.
-fn and_test(alloc: Global, first: Box<Block>, then: Box<Block>) -> Result<Box<Block>, NoMemory>
-    ensures { IfOk result (λ b. block_tree b.value ≡ and_test (block_tree first.value) (block_tree then.value)) }
-{
-    match Box::into_inner(then) {
-        Block::Test {
-            test: second,
-            yes,
-            no,
-        } => {
-            let both = both_given(alloc, first, second)?;
-            test(alloc, both, yes, no)
-        }
-        // for the proof: no other form comes here
-        _ => Err(NoMemory),
+    match block {
+        Block::Test { .. } => true,
+        Block::Give(_) | Block::Stop(_) | Block::Leave => false,
+        Block::Bind(_, _) | Block::Part(_, _) | Block::Join(_, _) => false,
+        Block::Arm { .. } => false,
     }
 }
 
@@ -238,27 +271,34 @@ fn both_given(alloc: Global, first: Box<Block>, second: Box<Block>) -> Result<Bo
     }
 }
 
-// Whether it gives a code that is plain in one more.
-fn gives_part(block: &Block) -> bool
-    ensures { result ≡ gives_part (block_tree block.now) }
+// Whether a test, and a second behind it that ends by `last`, are one that ends by `no`.
+fn are_one(first: &Block, second: &Block, last: &Block, no: &Block) -> bool
+    ensures { result ≡ are_one (block_tree first.now) (block_tree second.now) (block_tree last.now) (block_tree no.now) }
 {
-    match block {
-        Block::Give(code) => fits(code, 1),
+    give_together(first, second) && ends_alike(last, no)
+}
+
+// Whether both give codes that fit in one test.
+fn give_together(a: &Block, b: &Block) -> bool
+    ensures { result ≡ give_together (block_tree a.now) (block_tree b.now) }
+{
+    match a {
+        Block::Give(code) => gives_with(code, b),
         Block::Stop(_) | Block::Leave => false,
         Block::Bind(_, _) | Block::Part(_, _) | Block::Join(_, _) => false,
         Block::Test { .. } | Block::Arm { .. } => false,
     }
 }
 
-// Whether it tests a code, and ends as the other where that is false.
-fn tests_so(block: &Block, no: &Block) -> bool
-    ensures { result ≡ tests_so (block_tree block.now) (block_tree no.now) }
+// Whether it gives a code that fits in one test behind this one.
+fn gives_with(code: &Code, block: &Block) -> bool
+    ensures { result ≡ give_together (give_of (code_tree code.now)) (block_tree block.now) }
 {
     match block {
-        Block::Test { test, no: last, .. } => gives_part(test) && ends_alike(last, no),
-        Block::Give(_) | Block::Stop(_) | Block::Leave => false,
+        Block::Give(other) => fit_together(code, other),
+        Block::Stop(_) | Block::Leave => false,
         Block::Bind(_, _) | Block::Part(_, _) | Block::Join(_, _) => false,
-        Block::Arm { .. } => false,
+        Block::Test { .. } | Block::Arm { .. } => false,
     }
 }
 

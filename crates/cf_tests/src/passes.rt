@@ -234,6 +234,9 @@ const MORE_CASES: [Case; 8] = [
 /// A program with sets.
 const SETS: &str = "def main(s: set): int = card(s)\n";
 
+/// A program that picks a set.
+const CHOSEN_SET: &str = "def main(s: set): set = choose (t: set) where t subset s\n";
+
 /// `emit` in C, whose file is longer than a reply.
 const EMIT: Call<'static> = Call {
     command: "emit",
@@ -246,7 +249,7 @@ const EMIT: Call<'static> = Call {
     ..COMPILE
 };
 
-const EMIT_CASES: [Case; 4] = [
+const EMIT_CASES: [Case; 6] = [
     Case {
         calls: 1,
         call: EMIT,
@@ -267,9 +270,26 @@ const EMIT_CASES: [Case; 4] = [
         ..UNCALLED
     },
     Case {
-        status: Status::NoMemory,
+        calls: 1,
         call: Call {
             operand: "rust",
+            text: SETS,
+            ..EMIT
+        },
+        ..UNCALLED
+    },
+    Case {
+        call: Call {
+            operand: "smt",
+            ..EMIT
+        },
+        ..UNCALLED
+    },
+    Case {
+        status: Status::Types,
+        call: Call {
+            operand: "smt",
+            text: CHOSEN_SET,
             ..EMIT
         },
         ..UNCALLED

@@ -18,7 +18,7 @@ use Rattle.cf_answer.specs.declared.status.Status.TheVariants.{NoMemory}
 use Rattle.cf_answer.specs.declared.fault.Fault.{Fault}
 use Rattle.cf_answer.specs.declared.fault.Fault.TheVariants as fault
 use Rattle.cf_words.specs.declared.command.CommandKind.{CommandKind}
-use Rattle.cf_words.specs.declared.command.CommandKind.TheVariants.{Compile, Run, Pre, Check, Exec, Prove, Emit}
+use Rattle.cf_words.specs.declared.command.CommandKind.TheVariants.{Compile, Run, Pre, Check, Exec, Prove, Emit, Goals}
 use Rattle.cf_words.specs.declared.command.Flags.{Flags}
 use Rattle.cf_words.specs.declared.command.ReplyForm.{ReplyForm}
 use Rattle.cf_answer.proofs.CountLemmas.{one_fault}
@@ -37,6 +37,7 @@ one_name (Check strictness) flags form name = refl
 one_name Exec flags form name = refl
 one_name Prove flags form name = refl
 one_name (Emit e) flags form name = refl
+one_name Goals flags form name = refl
 
 pub reads_a_file : (kind : CommandKind) (flags : Flags) (form : ReplyForm) (name : List ℕ) → names_of (command_on kind flags form name) ≡ [] → ⊥
 reads_a_file kind flags form name none = let one : names_of (command_on kind flags form name) ≡ name ∷ [] = one_name kind flags form name in cc
@@ -165,6 +166,7 @@ long_refused (Check strictness) flags form name text h = too_long h
 long_refused Exec flags form name text h = too_long (past_its_own (edition_for (text ∷ [])) (length text) h)
 long_refused Prove flags form name text h = too_long h
 long_refused (Emit e) flags form name text h = too_long h
+long_refused Goals flags form name text h = too_long h
 
 pub long_does : (kind : CommandKind) (flags : Flags) (form : ReplyForm) (name : List ℕ) (given : List Told) (before after : Outside)
     (file : FileRead (command_on kind flags form name) name before.shelf after.shelf) →
@@ -285,6 +287,7 @@ file_in_order (Check strictness) flags form name before after status = tt
 file_in_order Exec flags form name before after status = tt
 file_in_order Prove flags form name before after status = tt
 file_in_order (Emit e) flags form name before after status = tt
+file_in_order Goals flags form name before after status = tt
 
 pub order_of : (command : Option Command) (before after : ShelfSeen) (known status : Status) → status ≡ known →
     IfSome command (λ c. IsInOrder c before after known) → IfSome command (λ c. IsInOrder c before after status)

@@ -17,8 +17,8 @@ ghost use Rattle.cf_words.specs.Words.{command_of, may_be_read};
 
 use cf_answer::{
     Ended, Fault, Status, longest_text, longest_written, run_source, run_target, status_of, tell,
-    verify_files, write_blocks, write_checks, write_emitted, write_help, write_preconditions,
-    write_target, write_version, write_workload,
+    verify_files, write_blocks, write_checks, write_emitted, write_goals, write_help,
+    write_preconditions, write_target, write_version, write_workload,
 };
 use cf_io::{FetchFault, Shelf, Sink, Source, read_front};
 use cf_pass::Pass;
@@ -180,7 +180,8 @@ fn longest_of(kind: CommandKind<'_>) -> usize
         | CommandKind::Pre
         | CommandKind::Check(_)
         | CommandKind::Prove
-        | CommandKind::Emit(_) => longest_text(),
+        | CommandKind::Emit(_)
+        | CommandKind::Goals => longest_text(),
     }
 }
 
@@ -211,5 +212,6 @@ fn answer_text<I: Source, O: Sink>(
         CommandKind::Exec => run_target(alloc, command.form, text, input, out),
         CommandKind::Prove => write_blocks(alloc, text, out),
         CommandKind::Emit(emitting) => write_emitted(alloc, &emitting, text, out, passes),
+        CommandKind::Goals => write_goals(alloc, text, out),
     }
 }

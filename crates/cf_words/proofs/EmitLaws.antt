@@ -22,7 +22,7 @@ use Rattle.cf_print.specs.Words.{words_of}
 use Rattle.cf_print.specs.declared.language.Language.{Language}
 use Rattle.cf_words.specs.Commands.{Command, emit}
 use Rattle.cf_words.specs.Grammar.{emit_found, emitting_subcommand, flag, found_unless, operand as the_operand, program, valued}
-use Rattle.cf_words.specs.Words.{emit_for, emit_on, emit_operands, emit_with, first_or_none, language_of, name_in, operands_behind_name, stands, stands_twice, usual_name}
+use Rattle.cf_words.specs.Words.{emit_for, emit_on, emit_operands, emit_with, first_or_none, language_of, name_in, operands_behind_name, stands, stands_twice}
 
 abbrev pub emitting : Shape
 emitting = built_leaf (inherited program.top (emitting_subcommand (codes "emit")).top)
@@ -143,7 +143,8 @@ module _ (id o : Text) (rows : List Row) (settles : settle_fault emitting.rules 
   settled_before p (main_flag ∷ us) = ap₂ (after_turn emit_found emitting (emit_words_of us)) (main_turns (number p)) (main_walks (number p))
   settled_before p (name_flag ∷ us) = ap₂ (after_turn emit_found emitting (emit_words_of us)) (name_turns (number p)) (name_walks (number p))
   settled_before first (operand word is_one ∷ us) = ap₂ (after_turn emit_found emitting (emit_words_of us)) (first_turns word is_one) (first_walks word is_one)
-  settled_before second (operand word is_one ∷ us) = ap₂ (after_turn emit_found emitting (emit_words_of us)) (second_turns word is_one) (second_walks word is_one)
+  settled_before second (operand word is_one ∷ us) =
+      ap₂ (after_turn emit_found emitting (emit_words_of us)) (second_turns word is_one) (second_walks word is_one)
   settled_before third (operand word is_one ∷ us) =
       fails emit_found emitting (holding id o rows 3) word (emit_words_of us) UnknownArgument []
       (operand_turn word is_one.is emitting [] (holding id o rows 3).held 3 refl)
@@ -250,9 +251,14 @@ place_of none_given = first
 place_of (one_given language) = second
 place_of (two_given language file) = third
 
+-- a name that came before, or one that comes
+abbrev name_behind : Option Text → Option Text → Option Text
+name_behind None coming = coming
+name_behind (Some name) coming = Some name
+
 -- what is asked by words behind the flag, the name and the operands that came before
 abbrev asked_behind : Bool → Option Text → Given → List Text → Option Command
-asked_behind m n g words = emit_with (m || stands (codes "--main") words) (unwrap_or n (name_in words)) (given g ++ emit_operands words)
+asked_behind m n g words = emit_with (m || stands (codes "--main") words) (name_behind n (name_in words)) (given g ++ emit_operands words)
 
 -- the rows tell these
 record Tells (m : Bool) (n : Option Text) (g : Given) (rows : List Row) : Type 0 where
@@ -268,7 +274,7 @@ of_rows main_row name_row language_row file_row =
     let is_true = λ (r : Option Row). option_map_or (λ t. bytes_eq t (codes "true")) (text r) false in
     let is_given = λ (r : Option Row). option_map_or (λ x. explicit_source x.source) r false in
     found_unless (check_kinds false false (not (is_given language_row) || (not (is_given file_row) || false)))
-    (option_and_then (λ language. option_and_then (emit_on language (is_true main_row) (unwrap_or (text name_row) usual_name)) (text file_row))
+    (option_and_then (λ language. option_and_then (emit_on language (is_true main_row) (text name_row)) (text file_row))
     (text language_row))
 
 abbrev rows_of : Bool → Option Text → Given → Option Command
@@ -326,13 +332,15 @@ none_of : (o : Option Language) → option_and_then nothing o ≡ None
 none_of None = refl
 none_of (Some l) = refl
 
-no_name : (name : Text) → is_name name ≡ false → (m : Bool) (os : List Text) → emit_with m name os ≡ None
+no_name : (name : Text) → is_name name ≡ false → (m : Bool) (os : List Text) → emit_with m (Some name) os ≡ None
 no_name name h m [] = refl
 no_name name h m (language ∷ []) = refl
 no_name name h m (language ∷ file ∷ []) =
-    ap (λ b. option_and_then (λ l. cond (b && not (is_reserved (words_of l) name))
+    ap (λ o. cond (bytes_eq language (codes "smt")) None o)
+    (ap (λ b. option_and_then (λ l. cond (b && not (is_reserved (words_of l) name))
     (Some (emit (record { language = l; has_main = m; name = name }) file)) None) (language_of language)) h
-    ∙ none_of (language_of language)
+    ∙ none_of (language_of language))
+    ∙ cond_same (bytes_eq language (codes "smt")) None
 no_name name h m (language ∷ file ∷ other ∷ os) = refl
 
 -- no flag comes that came before, and none comes twice
@@ -347,17 +355,17 @@ module _ (word : Text) (is_one : IsEmitOperand word) where
   -- an operand among words is neither flag
   abbrev asked_as : Bool → Option Text → Given → List Text → Bool → Bool → Option Command
   asked_as m n g words is_main is_name =
-      emit_with (m || (is_main || stands (codes "--main") words)) (unwrap_or n (cond is_name (first_or_none words) (name_in words)))
+      emit_with (m || (is_main || stands (codes "--main") words)) (name_behind n (cond is_name (Some (first_or_none words)) (name_in words)))
       (given g ++ cond is_name (operands_behind_name words) (cond is_main (emit_operands words) (word ∷ emit_operands words)))
 
   operand_asked : (m : Bool) (n : Option Text) (g : Given) (words : List Text)
       → asked_behind m n g (word ∷ words)
-      ≡ emit_with (m || stands (codes "--main") words) (unwrap_or n (name_in words)) (given g ++ word ∷ emit_operands words)
+      ≡ emit_with (m || stands (codes "--main") words) (name_behind n (name_in words)) (given g ++ word ∷ emit_operands words)
   operand_asked m n g words = ap₂ (asked_as m n g words) is_one.no_main is_one.no_name
 
   -- a name among words is no flag
   name_asked : (m : Bool) (g : Given) (words : List Text) → asked_behind m None g (codes "--name" ∷ word ∷ words) ≡ asked_behind m (Some word) g words
-  name_asked m g words = ap (λ b. emit_with (m || (b || stands (codes "--main") words)) word (given g ++ emit_operands words)) is_one.no_main
+  name_asked m g words = ap (λ b. emit_with (m || (b || stands (codes "--main") words)) (Some word) (given g ++ emit_operands words)) is_one.no_main
 
   comes_behind : (m : Bool) (dashed : Text) (words : List Text) → bytes_eq word dashed ≡ false →
       comes_again dashed m (word ∷ words) ≡ comes_again dashed m words
@@ -410,7 +418,8 @@ all_go (name_flag ∷ operand word is_one ∷ us) m None g rows h once =
     let position = number (place_of g) in
     passes emit_found emitting (free rows position) (waiting rows position) (codes "--name") (word ∷ emit_words_of us) (name_turn rows position)
     (name_walk rows position)
-    ∙ passes emit_found emitting (waiting rows position) (holding (codes "name") word rows position) word (emit_words_of us) (value_turn word is_one rows position)
+    ∙ passes emit_found emitting (waiting rows position) (holding (codes "name") word rows position) word (emit_words_of us)
+    (value_turn word is_one rows position)
     (value_walk word is_one rows position)
     ∙ name_settles word rows h.name (place_of g) us
     ∙ all_go us m (Some word) g (rows ++ row ∷ [])

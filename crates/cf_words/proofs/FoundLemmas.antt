@@ -14,7 +14,7 @@ use Rattle.cf_print.specs.declared.language.Language.{Language}
 use Rattle.cf_words.specs.Commands.{Command, plain_command}
 use Rattle.cf_words.proofs.GrammarLaws.{clap_agrees, is_exact, is_simple_grammar}
 use Rattle.cf_words.specs.Grammar.{MatchesAnswer, checks_found, clap_command, command_found, emit_found, emit_in, flags_found, form_found, found_unless, grammar, is_set, name_found, plain_found, verify_found}
-use Rattle.cf_words.specs.Words.{WordsAnswer, about, command_for, command_in, command_of, command_parsed, LanguageAnswer, emit_named, emit_on, language_of, may_be_parsed, may_be_read, usual_name, verify_for}
+use Rattle.cf_words.specs.Words.{WordsAnswer, about, command_for, command_in, command_of, command_parsed, emit_goals, emit_language, emit_named, emit_on, language_of, may_be_parsed, may_be_read, usual_name, verify_for}
 use Rattle.cf_words.specs.declared.command.Command as declared
 use Rattle.cf_words.specs.declared.fault.WordsFault.{WordsFault}
 use Rattle.cf_words.specs.declared.fault.WordsFault.TheVariants.{Usage, NoMemory}
@@ -49,8 +49,8 @@ files_are m file steps f s =
 
 -- what was found for `emit`, one after the other
 pub name_is : (m : ArgMatches) (o : Option (Bor Text)) → option_map (λ s. s.now) o ≡ first_value (found_of m) (codes "name")
-    → unwrap_or (option_map (λ s. s.now) o) usual_name ≡ name_found (rows_of (found_of m))
-name_is m o e = ap (λ t. unwrap_or t usual_name) (e ∙ first_value-rows (found_of m) (codes "name"))
+    → option_map (λ s. s.now) o ≡ name_found (rows_of (found_of m))
+name_is m o e = e ∙ first_value-rows (found_of m) (codes "name")
 
 pub language_is : (m : ArgMatches) (o : Option (Bor Text)) → option_map (λ s. s.now) o ≡ first_value (found_of m) (codes "language")
     → option_and_then (λ word. emit_in word (rows_of (found_of m))) (option_map (λ s. s.now) o) ≡ emit_found (rows_of (found_of m))
@@ -82,17 +82,25 @@ pub plain_behind : (name : Text) (rows : List Row) (r : Result declared.Command 
 plain_behind name rows r other h = subst (λ b. WordsAnswer (cond b (emit_found rows) (plain_found name rows)) r) (sym other) h
 
 -- a language that a word is, and a word that is none
-module _ (word name file : Text) (has_main : Bool) where
+module _ (word : Text) (name : Option Text) (file : Text) (has_main : Bool) where
   abbrev in_language : Option Language → Option Command
-  in_language o = option_and_then (λ l. emit_named (record { language = l; has_main = has_main; name = name }) file) o
+  in_language o = option_and_then (λ l. emit_named (record { language = l; has_main = has_main; name = unwrap_or name usual_name }) file) o
 
   pub language_there : (l : Language) (r : Result declared.Command WordsFault) → language_of word ≡ Some l →
-      WordsAnswer (emit_named (record { language = l; has_main = has_main; name = name }) file) r → WordsAnswer (emit_on word has_main name file) r
+      WordsAnswer (emit_named (record { language = l; has_main = has_main; name = unwrap_or name usual_name }) file) r →
+      WordsAnswer (emit_language word has_main name file) r
   language_there l r is h = subst (λ o. WordsAnswer (in_language o) r) (sym is) h
 
-  pub no_language : (f : WordsFault) → LanguageAnswer (language_of word) (Err f) → WordsAnswer (emit_on word has_main name file) (Err f)
-  no_language Usage h = ap in_language h
-  no_language NoMemory h = tt
+  pub goals_behind : (r : Result declared.Command WordsFault) → bytes_eq word (codes "smt") ≡ true → WordsAnswer (emit_goals has_main name file) r →
+      WordsAnswer (emit_on word has_main name file) r
+  goals_behind r is h = subst (λ b. WordsAnswer (cond b (emit_goals has_main name file) (emit_language word has_main name file)) r) (sym is) h
+
+  pub language_behind : (r : Result declared.Command WordsFault) → bytes_eq word (codes "smt") ≡ false → WordsAnswer (emit_language word has_main name file) r →
+      WordsAnswer (emit_on word has_main name file) r
+  language_behind r other h = subst (λ b. WordsAnswer (cond b (emit_goals has_main name file) (emit_language word has_main name file)) r) (sym other) h
+
+  pub no_language : language_of word ≡ None → WordsAnswer (emit_language word has_main name file) (Err Usage)
+  no_language h = ap in_language h
 
 no_answer : {X : Type 0} (kind : ErrorKind) (kinds : Kinds) (answer : Option X) → IsAmong kind kinds → found_unless kinds answer ≡ None
 no_answer kind [] answer among = absurd among

@@ -1,8 +1,8 @@
 -- Worked examples of the command that words are.
 use Rattle.std.proofs.Common.{◌≡◌, ℕ, List, refl, true, false, [], ◌∷◌, Some, None, codes}
 use Rattle.std.specs.Fmt.{digits}
-use Rattle.cf_print.specs.declared.language.Language.TheVariants.{C, Python, JavaScript}
-use Rattle.cf_words.specs.Commands.{compile, run, pre, check, exec, prove, emit, verify, gen, help, version}
+use Rattle.cf_print.specs.declared.language.Language.TheVariants.{C, Python, JavaScript, Rust}
+use Rattle.cf_words.specs.Commands.{compile, run, pre, check, exec, prove, emit, goals, verify, gen, help, version}
 use Rattle.cf_words.specs.Words.{command_of, is_flag, is_name, is_operand, may_be_read, most_size}
 use Rattle.cf_words.specs.declared.command.ReplyForm.{ReplyForm}
 use Rattle.cf_words.specs.declared.command.Strictness.TheVariants as strictness
@@ -372,6 +372,10 @@ emit_js : command_of (codes "emit" ∷ codes "--main" ∷ codes "js" ∷ codes "
     ≡ Some (emit (record { language = JavaScript; has_main = true; name = codes "total_2" }) (codes "a"))
 emit_js = refl
 
+emit_rust : command_of (codes "emit" ∷ codes "rust" ∷ codes "a" ∷ codes "--name" ∷ codes "whole" ∷ [])
+    ≡ Some (emit (record { language = Rust; has_main = false; name = codes "whole" }) (codes "a"))
+emit_rust = refl
+
 emit_name_first : command_of (codes "emit" ∷ codes "--name" ∷ codes "seconds" ∷ codes "c" ∷ codes "a" ∷ [])
     ≡ Some (emit (record { language = C; has_main = false; name = codes "seconds" }) (codes "a"))
 emit_name_first = refl
@@ -390,9 +394,15 @@ emit_exchanged = refl
 emit_in_another_language : command_of (codes "emit" ∷ codes "java" ∷ codes "a" ∷ []) ≡ None
 emit_in_another_language = refl
 
--- there is a word for it, and no printer yet
-emit_not_built : command_of (codes "emit" ∷ codes "rust" ∷ codes "a" ∷ []) ≡ None
-emit_not_built = refl
+emit_goals_of_a_file : command_of (codes "emit" ∷ codes "smt" ∷ codes "a" ∷ []) ≡ Some (goals (codes "a"))
+emit_goals_of_a_file = refl
+
+emit_goals_with_main : command_of (codes "emit" ∷ codes "smt" ∷ codes "a" ∷ codes "--main" ∷ []) ≡ None
+emit_goals_with_main = refl
+
+-- also where it is the usual name
+emit_goals_with_name : command_of (codes "emit" ∷ codes "--name" ∷ codes "answer" ∷ codes "smt" ∷ codes "a" ∷ []) ≡ None
+emit_goals_with_name = refl
 
 emit_without_file : command_of (codes "emit" ∷ codes "c" ∷ []) ≡ None
 emit_without_file = refl
@@ -434,6 +444,9 @@ emit_reserved_name = refl
 emit_name_of_a_helper : command_of (codes "emit" ∷ codes "python" ∷ codes "a" ∷ codes "--name" ∷ codes "fit" ∷ []) ≡ None
 emit_name_of_a_helper = refl
 
+emit_word_of_rust : command_of (codes "emit" ∷ codes "rust" ∷ codes "a" ∷ codes "--name" ∷ codes "match" ∷ []) ≡ None
+emit_word_of_rust = refl
+
 emit_name_of_a_part : command_of (codes "emit" ∷ codes "js" ∷ codes "a" ∷ codes "--name" ∷ codes "choose_1" ∷ []) ≡ None
 emit_name_of_a_part = refl
 
@@ -457,7 +470,7 @@ name_of_run : command_of (codes "run" ∷ codes "--name" ∷ codes "a" ∷ []) �
 name_of_run = refl
 
 -- its words may be read, whatever they ask
-emit_may_be_read : may_be_read (codes "emit" ∷ codes "rust" ∷ codes "--main" ∷ codes "a" ∷ []) ≡ true
+emit_may_be_read : may_be_read (codes "emit" ∷ codes "smt" ∷ codes "--main" ∷ codes "a" ∷ []) ≡ true
 emit_may_be_read = refl
 
 emit_may_not_be_read : may_be_read (codes "emit" ∷ codes "c" ∷ codes "--plain" ∷ codes "a" ∷ []) ≡ false

@@ -4,7 +4,7 @@ use Rattle.cf_print.specs.declared.language.Language.{Language}
 use Rattle.cf_words.specs.declared.command.Command as declared
 use Rattle.cf_words.specs.declared.command.Command.TheVariants.{OnFile, Verify, Gen, Help, Version}
 use Rattle.cf_words.specs.declared.command.CommandKind.{CommandKind}
-use Rattle.cf_words.specs.declared.command.CommandKind.TheVariants.{Compile, Run, Pre, Check, Exec, Prove, Emit}
+use Rattle.cf_words.specs.declared.command.CommandKind.TheVariants.{Compile, Run, Pre, Check, Exec, Prove, Emit, Goals}
 use Rattle.cf_words.specs.declared.command.Emitting as declared_emitting
 use Rattle.cf_words.specs.declared.command.FileCommand.{FileCommand}
 use Rattle.cf_words.specs.declared.command.Flags.{Flags}
@@ -25,6 +25,7 @@ pub data Command : Type 0 where
   exec : ReplyForm → List ℕ → Command
   prove : List ℕ → Command
   emit : Emitting → List ℕ → Command
+  goals : List ℕ → Command
   verify : List ℕ → List ℕ → Command
   gen : ℕ → Command
   help : Command
@@ -42,6 +43,7 @@ command_on (Check strictness) flags form file = check strictness file
 command_on Exec flags form file = exec form file
 command_on Prove flags form file = prove file
 command_on (Emit e) flags form file = emit (plain_emitting e) file
+command_on Goals flags form file = goals file
 
 abbrev pub file_command : FileCommand → Command
 file_command c = command_on c.kind c.flags c.form c.file.now

@@ -1,10 +1,10 @@
 -- What clap is told of the words, and what is made of its answer.
-use Rattle.std.specs.Prelude.{◌≡◌, ⊤, Result, Ok, Err, List, [], ◌∷◌, Bool, true, false, Option, Some, None, option_and_then, unwrap_or, if◌then◌else◌, codes, bytes_eq}
+use Rattle.std.specs.Prelude.{◌≡◌, ⊤, Result, Ok, Err, List, [], ◌∷◌, Bool, true, false, Option, Some, None, option_and_then, if◌then◌else◌, codes, bytes_eq}
 use Rattle.std.specs.Option.{option_map_or}
 use Rattle.clap.specs.Words.{App, Kinds, Row, Rule, Text, fault_of, first_of, new_app, new_rule, subcommand_of, subcommand_rows_of, with_rule, with_subcommand}
 use Rattle.clap.specs.declared.builder.action.ArgAction.TheVariants.{SetTrue}
 use Rattle.cf_words.specs.Commands.{Command}
-use Rattle.cf_words.specs.Words.{command_for, emit_on, usual_name, verify_for}
+use Rattle.cf_words.specs.Words.{command_for, emit_on, verify_for}
 use Rattle.clap.specs.declared.parser.matches.ArgMatches.{ArgMatches}
 use Rattle.cf_words.specs.declared.command.CheckFlags.{CheckFlags}
 use Rattle.cf_words.specs.declared.command.Flags.{Flags}
@@ -71,9 +71,9 @@ abbrev pub verify_found : List Row → Option Command
 verify_found rows =
     option_and_then (λ file. option_and_then (λ steps. verify_for (file ∷ steps ∷ [])) (first_of (codes "steps") rows)) (first_of (codes "file") rows)
 
--- the command `emit` on what was found; where no name was, the function has its usual one
-abbrev pub name_found : List Row → Text
-name_found rows = unwrap_or (first_of (codes "name") rows) usual_name
+-- the command `emit` on what was found
+abbrev pub name_found : List Row → Option Text
+name_found rows = first_of (codes "name") rows
 
 abbrev pub emit_in : Text → List Row → Option Command
 emit_in word rows = option_and_then (emit_on word (is_set (codes "main") rows) (name_found rows)) (first_of (codes "file") rows)

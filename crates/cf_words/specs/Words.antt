@@ -1,11 +1,11 @@
 -- The words of the command line, and the command that they are.
-use Rattle.std.specs.Prelude.{◌≡◌, ⊤, ℕ, List, [], ◌∷◌, Bool, false, not, ◌&&◌, ◌||◌, ◌==◌, if◌then◌else◌, Option, Some, None, is_some, option_map, option_and_then, find, filter, codes, decimal, bytes_eq, Result, Ok, Err}
+use Rattle.std.specs.Prelude.{◌≡◌, ⊤, ℕ, List, [], ◌∷◌, Bool, false, not, ◌&&◌, ◌||◌, ◌==◌, if◌then◌else◌, Option, Some, None, is_some, option_map, option_and_then, unwrap_or, find, filter, codes, decimal, bytes_eq, Result, Ok, Err}
 use Rattle.std.specs.List.{list_all, list_any, range_with_len}
 use Rattle.cf_print.specs.Names.{may_name}
 use Rattle.cf_print.specs.Words.{words_of}
 use Rattle.cf_print.specs.declared.language.Language.{Language}
-use Rattle.cf_print.specs.declared.language.Language.TheVariants.{C, Python, JavaScript}
-use Rattle.cf_words.specs.Commands.{Command, Emitting, compile, run, pre, check, exec, prove, emit, verify, gen, help, version, plain_command}
+use Rattle.cf_print.specs.declared.language.Language.TheVariants.{C, Python, JavaScript, Rust}
+use Rattle.cf_words.specs.Commands.{Command, Emitting, compile, run, pre, check, exec, prove, emit, goals, verify, gen, help, version, plain_command}
 use Rattle.cf_words.specs.declared.command.Command as declared
 use Rattle.cf_words.specs.declared.command.CheckFlags.{CheckFlags}
 use Rattle.cf_words.specs.declared.command.Flags.{Flags}
@@ -168,9 +168,10 @@ language_of word =
     if bytes_eq word (codes "c") then Some C
     else if bytes_eq word (codes "python") then Some Python
     else if bytes_eq word (codes "js") then Some JavaScript
+    else if bytes_eq word (codes "rust") then Some Rust
     else None
 
--- what stands behind `--name`, or nothing where it stands last; and where it does not stand, the name that a function has then
+-- what stands behind `--name`, where it stands, or nothing where it stands last; and the name that a function has where it does not stand
 abbrev pub usual_name : List ℕ
 usual_name = codes "answer"
 
@@ -178,9 +179,9 @@ abbrev pub first_or_none : List (List ℕ) → List ℕ
 first_or_none [] = []
 first_or_none (word ∷ words) = word
 
-abbrev pub name_in : List (List ℕ) → List ℕ
-name_in [] = usual_name
-name_in (word ∷ words) = if bytes_eq word (codes "--name") then first_or_none words else name_in words
+abbrev pub name_in : List (List ℕ) → Option (List ℕ)
+name_in [] = None
+name_in (word ∷ words) = if bytes_eq word (codes "--name") then Some (first_or_none words) else name_in words
 
 -- the words that are neither flags nor what stands behind `--name`
 abbrev mutual
@@ -199,12 +200,19 @@ abbrev mutual
 abbrev pub emit_named : Emitting → List ℕ → Option Command
 emit_named e file = if may_name (words_of e.language) e.name then Some (emit e file) else None
 
-abbrev pub emit_on : List ℕ → Bool → List ℕ → List ℕ → Option Command
-emit_on word has_main name file =
-    option_and_then (λ l. emit_named (record { language = l; has_main = has_main; name = name }) file) (language_of word)
+abbrev pub emit_language : List ℕ → Bool → Option (List ℕ) → List ℕ → Option Command
+emit_language word has_main name file =
+    option_and_then (λ l. emit_named (record { language = l; has_main = has_main; name = unwrap_or name usual_name }) file) (language_of word)
+
+-- goals for solvers take neither flag
+abbrev pub emit_goals : Bool → Option (List ℕ) → List ℕ → Option Command
+emit_goals has_main name file = if is_some name || has_main then None else Some (goals file)
+
+abbrev pub emit_on : List ℕ → Bool → Option (List ℕ) → List ℕ → Option Command
+emit_on word has_main name file = if bytes_eq word (codes "smt") then emit_goals has_main name file else emit_language word has_main name file
 
 -- it takes two operands
-abbrev pub emit_with : Bool → List ℕ → List (List ℕ) → Option Command
+abbrev pub emit_with : Bool → Option (List ℕ) → List (List ℕ) → Option Command
 emit_with has_main name (word ∷ file ∷ []) = emit_on word has_main name file
 emit_with has_main name operands = None
 
@@ -227,12 +235,6 @@ command_parsed words = if may_be_parsed words then command_in words else None
 -- the command that the words are; none where they are no command
 abbrev pub command_of : List (List ℕ) → Option Command
 command_of words = if is_some (about words) then about words else command_parsed words
-
--- what is answered to a word that is that of this language, or of none; want of memory is free
-abbrev pub LanguageAnswer : Option Language → Result Language WordsFault → Type 0
-LanguageAnswer asked (Ok language) = asked ≡ Some language
-LanguageAnswer asked (Err Usage) = asked ≡ None
-LanguageAnswer asked (Err NoMemory) = ⊤
 
 -- what is answered to words that are this command, or none; want of memory is free
 abbrev pub WordsAnswer : Option Command → Result declared.Command WordsFault → Type 0

@@ -31,6 +31,9 @@ pub enum CommandKind<'a> {
     /// The file holds a source text. The target that it is compiled to is written as a program of another
     /// language.
     Emit(Emitting<'a>),
+    /// The file holds a source text. For each of its chooses, its relation and its arms are written with goals
+    /// for solvers.
+    Goals,
 }
 
 /// What `check` asks of its answers, for its status.

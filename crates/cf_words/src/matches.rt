@@ -1,9 +1,9 @@
 //! What `clap` finds in words.
-ghost use Rattle.std.specs.Prelude.{◌≡◌, ◌∷◌, [], false, map, string_bytes, Some, IfSome, IfOk, option_map};
+ghost use Rattle.std.specs.Prelude.{◌≡◌, ◌∷◌, [], false, map, string_bytes, Some, IfSome, IfOk, option_map, unwrap_or};
 ghost use Rattle.clap.specs.Words.{found_of, rows_of, subcommand_rows_of};
 ghost use Rattle.cf_words.specs.Commands.{HasSize, plain_command, plain_emitting};
 ghost use Rattle.cf_words.specs.Grammar.{MatchesAnswer, checks_found as the_checks_found, clap_command, command_found as the_command_found, emit_found as the_emit_found, emit_in as the_emit_in, flags_found as the_flags_found, form_found as the_form_found, is_set as the_is_set, name_found as the_name_found, plain_found as the_plain_found, verify_found as the_verify_found};
-ghost use Rattle.cf_words.specs.Words.{WordsAnswer, check_for as the_check_for, command_for as the_command_for, emit_named as the_emit_named, emit_on as the_emit_on, command_without_input as the_command_without_input, exec_for as the_exec_for, run_for as the_run_for, strictness_of as the_strictness_of, verify_for as the_verify_for};
+ghost use Rattle.cf_words.specs.Words.{WordsAnswer, check_for as the_check_for, command_for as the_command_for, emit_goals as the_emit_goals, emit_language as the_emit_language, emit_named as the_emit_named, emit_on as the_emit_on, usual_name, command_without_input as the_command_without_input, exec_for as the_exec_for, run_for as the_run_for, strictness_of as the_strictness_of, verify_for as the_verify_for};
 
 use crate::command::{
     CheckFlags, Command, CommandKind, Emitting, FileCommand, Flags, ReplyForm, Strictness,
@@ -121,37 +121,95 @@ fn emit_in<'a>(
     }
 }
 
-// The name that was found, or the usual one.
-fn name_found<'a>(found: &ArgMatches<'a>) -> &'a str
-    ensures { result.now ≡ the_name_found (rows_of (found_of found.now)) }
+// The name that was found.
+fn name_found<'a>(found: &ArgMatches<'a>) -> Option<&'a str>
+    ensures { option_map (λ n. n.now) result ≡ the_name_found (rows_of (found_of found.now)) }
 {
-    match found.get_str("name") {
+    found.get_str("name")
+}
+
+// The command `emit` for this word, with a name or none.
+fn emit_on<'a>(
+    alloc: Global,
+    word: &str,
+    has_main: bool,
+    name: Option<&'a str>,
+    file: &'a str,
+) -> Result<Command<'a>, WordsFault>
+    ensures command { WordsAnswer (the_emit_on word.now has_main (option_map (λ n. n.now) name.entry) file.now) result }
+    ensures size { IfOk result HasSize }
+{
+    if word == "smt" {
+        return emit_goals(has_main, name, file);
+    }
+    emit_language(alloc, word, has_main, name, file)
+}
+
+// Goals for solvers, where neither flag stands.
+fn emit_goals<'a>(
+    has_main: bool,
+    name: Option<&'a str>,
+    file: &'a str,
+) -> Result<Command<'a>, WordsFault>
+    ensures command { WordsAnswer (the_emit_goals has_main (option_map (λ n. n.now) name.entry) file.now) result }
+    ensures size { IfOk result HasSize }
+{
+    match name {
+        Some(_) => Err(WordsFault::Usage),
+        None => if has_main {
+            Err(WordsFault::Usage)
+        } else {
+            Ok(goals(file))
+        },
+    }
+}
+
+fn goals<'a>(file: &'a str) -> Command<'a>
+    ensures { result ≡ Command.OnFile (record {
+      kind = CommandKind.Goals;
+      flags = record { plain = false; stats = false };
+      form = record { key = false; jsonl = false };
+      file = file.entry;
+    }) }
+{
+    let flags = Flags {
+        plain: false,
+        stats: false,
+    };
+    silent(CommandKind::Goals, flags, file)
+}
+
+// A name, or the usual one.
+fn name_or_usual<'a>(name: Option<&'a str>) -> &'a str
+    ensures { result.now ≡ unwrap_or (option_map (λ n. n.now) name.entry) usual_name }
+{
+    match name {
         Some(name) => name,
         None => "answer",
     }
 }
 
-// The command `emit` on a language that there is, and a name that a function may have there.
-fn emit_on<'a>(
+// A program of a language that there is, and a name that a function may have there.
+fn emit_language<'a>(
     alloc: Global,
     word: &str,
     has_main: bool,
-    name: &'a str,
+    name: Option<&'a str>,
     file: &'a str,
 ) -> Result<Command<'a>, WordsFault>
-    ensures command { WordsAnswer (the_emit_on word.now has_main name.now file.now) result }
+    ensures command { WordsAnswer (the_emit_language word.now has_main (option_map (λ n. n.now) name.entry) file.now) result }
     ensures size { IfOk result HasSize }
 {
     match language_of(word) {
-        Ok(language) => {
+        Some(language) => {
             let emitting = Emitting {
                 language,
                 has_main,
-                name,
+                name: name_or_usual(name),
             };
             emit_named(alloc, emitting, file)
         }
-        Err(fault) => Err(fault),
+        None => Err(WordsFault::Usage),
     }
 }
 

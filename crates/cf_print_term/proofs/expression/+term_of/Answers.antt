@@ -1,6 +1,6 @@
 use Rattle.std.proofs.Common.{◌≡◌, ◌∙◌, IfOk, subst}
 use Rattle.cf_print_term.specs.TermView.{term_tree}
-use Rattle.cf_print_term.proofs.TermLists.{next_term, last_term, called_all, filled, sum_of_two, sum_by_total, sum_by_parts, none_summed}
+use Rattle.cf_print_term.proofs.TermLists.{next_term, last_term, called_all, filled, sum_of_two, sum_called, sum_by_parts, none_summed}
 use Rattle.cf_print_term.proofs.expression.+term_of.Goals as goal
 
 pub over_all-returns-in_ok-terms-in-Called : goal.over_all-returns-in_ok-terms-in-Called
@@ -31,9 +31,9 @@ sum-returns-in-len2 t c =
 
 pub sum-returns-then-passes : goal.sum-returns-then-passes
 sum-returns-then-passes t c =
-    subst (λ u. IfOk c.total.result (λ x. term_tree x ≡ u))
-    (sum_by_total c.args.walk.now.table.now c.args.walk.now.scope.now c.args.passes _ c.args.parts.now c.if-passes.true c.in-len3-up.len_at_least)
-    c.total.ensures
+    subst (λ u. IfOk c.sum_by_call.result (λ x. term_tree x ≡ u))
+    (sum_called c.args.walk.now.table.now c.args.walk.now.scope.now c.args.passes _ c.args.parts.now c.if-passes.true c.in-len3-up.len_at_least)
+    c.sum_by_call.ensures
 
 pub sum-returns-in_ok-start-in-len3-up : goal.sum-returns-in_ok-start-in-len3-up
 sum-returns-in_ok-start-in-len3-up t c =

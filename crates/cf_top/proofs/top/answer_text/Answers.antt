@@ -24,3 +24,7 @@ returns-in-Prove-clause-answers g c =
 pub returns-in-Emit-clause-answers : goal.returns-in-Emit-clause-answers
 returns-in-Emit-clause-answers g c =
     rw c.in-Emit.is (c.write_emitted.ensures.answers c.args.command.now.file.now (g.I.Source.seen c.args.input.now))
+
+pub returns-in-Goals-clause-answers : goal.returns-in-Goals-clause-answers
+returns-in-Goals-clause-answers g c =
+    rw c.in-Goals.is (c.write_goals.ensures.answers c.args.command.now.file.now _ (g.I.Source.seen c.args.input.now))

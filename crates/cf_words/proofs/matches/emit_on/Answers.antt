@@ -1,9 +1,14 @@
-use Rattle.cf_words.proofs.FoundLemmas.{language_there, no_language}
+use Rattle.std.proofs.Common.{◌∙◌, sym}
+use Rattle.std.specs.Prelude.{option_map}
+use Rattle.cf_words.proofs.FoundLemmas.{goals_behind, language_behind}
 use Rattle.cf_words.proofs.matches.emit_on.Goals as goal
 
-pub returns-in-Ok-clause-command : goal.returns-in-Ok-clause-command
-returns-in-Ok-clause-command c =
-    language_there c.args.word.now c.args.name.now c.args.file.now c.args.has_main c.in-Ok.language _ c.in-Ok.ensures c.emit_named.ensures.command
+pub returns-then-eq-clause-command : goal.returns-then-eq-clause-command
+returns-then-eq-clause-command c =
+    goals_behind c.args.word.now (option_map (λ n. n.now) c.args.name) c.args.file.now c.args.has_main _ (sym c.eq.ensures ∙ c.if-eq.true)
+    c.emit_goals.ensures.command
 
-pub returns-in-Err-clause-command : goal.returns-in-Err-clause-command
-returns-in-Err-clause-command c = no_language c.args.word.now c.args.name.now c.args.file.now c.args.has_main c.in-Err.fault c.in-Err.ensures
+pub returns-clause-command : goal.returns-clause-command
+returns-clause-command c =
+    language_behind c.args.word.now (option_map (λ n. n.now) c.args.name) c.args.file.now c.args.has_main _ (sym c.eq.ensures ∙ c.if-eq.false)
+    c.emit_language.ensures.command

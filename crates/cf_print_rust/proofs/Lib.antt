@@ -1,0 +1,3 @@
+pub mod NumberedLaws
+pub mod FilterExamples
+pub mod OpeningExamples

@@ -1,0 +1,11 @@
+pub mod Terms
+pub mod Forms
+pub mod Reads
+pub mod Names
+pub mod ClaimView
+pub mod Lets
+pub mod BoundView
+pub mod Commands
+pub mod Goals
+pub mod Answers
+pub mod Heads
