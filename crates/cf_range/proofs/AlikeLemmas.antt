@@ -1,7 +1,8 @@
 -- Paths that answer alike, one after another.
 use Rattle.std.proofs.Common.{◌≡◌, ℕ, zero, suc, ◌≤◌, max, Bool, true, false, cond, Option, Some, None, List, refl, ◌∙◌, arith}
 use Rattle.cf_num.specs.Limit.{limit}
-use Rattle.cf_tree.specs.Meaning.{Got, got, none_at, Path, then_gives, then_peak, then_path, gives_only, if_some, or_later, first_from}
+use Rattle.cf_tree.specs.CodeTree.{CodeTree}
+use Rattle.cf_tree.specs.Meaning.{path, Got, got, none_at, Path, then_gives, then_peak, then_path, gives_only, if_some, or_later, first_from}
 use Rattle.cf_tree.specs.Values.{Value}
 use Rattle.cf_range.specs.Alike.{Follows, Alike}
 
@@ -71,3 +72,9 @@ met_before k p q w h = (
   λ l. h.0 (omega arith),
   λ l. let a = h.1 l in let b = a.0 in (omega (arith, w, b), a.1),
 )
+
+-- one code or another
+pub either_code : (t : Bool) (p : Path (List Value)) (a b : CodeTree) (env : List Value) → (t ≡ true → Alike p (path a env)) →
+    (t ≡ false → Alike p (path b env)) → Alike p (path (cond t a b) env)
+either_code true p a b env h k = h refl
+either_code false p a b env h k = k refl

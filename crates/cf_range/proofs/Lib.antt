@@ -1,8 +1,16 @@
 pub mod AlikeLemmas
 pub mod NumberLemmas
 pub mod PathLemmas
+pub mod PutLaws
+pub mod PutTypes
 mod RangeExamples
 pub mod RangeLaws
+pub mod RestLaws
+mod SettledExamples
+pub mod SettledLaws
+pub mod SettledLists
+pub mod SettledTypes
+pub mod StandsLaws
 mod TidiedExamples
 pub mod TidiedLaws
 pub mod TidiedLists

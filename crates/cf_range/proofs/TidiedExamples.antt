@@ -1,11 +1,11 @@
 -- Codes that answer alike, codes that do not, and what tidying makes of a code.
 use Rattle.std.proofs.Common.{◌≡◌, ◌^◌, ℕ, pos, negsuc, true, false, [], ◌∷◌, refl, arith}
 use Rattle.std.proofs.lemmas.Int.{ints}
-use Rattle.cf_tree.specs.CodeTree.{CodeTree, code_lit, code_truth, code_var, code_sum, code_mul, code_neg, code_div, code_let, code_solve, no_codes, code_more, let_item, need_item, no_items, item_more, arm_of, no_arms, arm_more}
+use Rattle.cf_tree.specs.CodeTree.{CodeTree, code_lit, code_truth, code_var, code_sum, code_mul, code_neg, code_div, code_let, code_solve, no_codes, code_more, let_item, need_item, no_items, item_more, ArmTree, arm_of, no_arms, arm_more}
 use Rattle.cf_tree.specs.Meaning.{Path, got}
 use Rattle.cf_range.specs.Alike.{Alike, AnswersAlike}
 use Rattle.cf_range.specs.Ranges.{between}
-use Rattle.cf_range.specs.Tidied.{product, tidied, other_items}
+use Rattle.cf_range.specs.Tidied.{product, tidied, other_items, count_reached, reached}
 
 abbrev at_peak : ℕ → ℕ → Path ℕ
 at_peak n peak = record { gives = got n; peak = peak }
@@ -75,3 +75,25 @@ other_items-let = refl
 tidied-arm : tidied (code_solve 1 (arm_more (arm_of (3 ∷ []) (item_more (let_item (minus x)) (item_more (need_item (minus x)) (item_more (need_item (code_truth true)) no_items))) (code_more (minus x) no_codes)) no_arms))
     ≡ code_solve 1 (arm_more (arm_of (3 ∷ []) (item_more (let_item (code_neg x)) (item_more (need_item (code_neg x)) no_items)) (code_more (code_neg x) no_codes)) no_arms)
 tidied-arm = refl
+
+-- ---- arms: one without bounds and needs always gives
+abbrev lets : ArmTree
+lets = arm_of [] (item_more (let_item x) no_items) (code_more x no_codes)
+
+abbrev needs : ArmTree
+needs = arm_of [] (item_more (let_item x) (item_more (need_item x) no_items)) (code_more x no_codes)
+
+abbrev searches : ArmTree
+searches = arm_of (3 ∷ []) no_items (code_more x no_codes)
+
+reached-behind_lets : reached (arm_more needs (arm_more lets (arm_more searches no_arms))) ≡ arm_more needs (arm_more lets no_arms)
+reached-behind_lets = refl
+
+reached-behind_searches : reached (arm_more searches (arm_more needs no_arms)) ≡ arm_more searches (arm_more needs no_arms)
+reached-behind_searches = refl
+
+count_reached-second : count_reached (arm_more needs (arm_more lets (arm_more searches no_arms))) ≡ 2
+count_reached-second = refl
+
+tidied-reached : tidied (code_solve 1 (arm_more lets (arm_more searches no_arms))) ≡ code_solve 1 (arm_more lets no_arms)
+tidied-reached = refl

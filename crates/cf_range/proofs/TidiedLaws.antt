@@ -1,20 +1,28 @@
 -- What tidying makes of a code answers alike.
-use Rattle.std.proofs.Common.{◌≡◌, ℤ, pos, negsuc, neg_ℤ, ◌+ℤ◌, ◌*ℤ◌, true, false, Option, None, Result, Ok, Err, IfOk, List, [], ◌++◌, sym, ap, subst, arith}
+use Rattle.std.proofs.Common.{◌≡◌, ℕ, suc, nat_eq, ℤ, pos, negsuc, neg_ℤ, ◌+ℤ◌, ◌*ℤ◌, Bool, true, false, cond, ◌&&◌, Option, Some, None, List, [], ◌∷◌, ◌++◌, length, refl, sym, ap, subst, arith}
 use Rattle.std.proofs.lemmas.Int.{ints}
 use Rattle.cf_tree.specs.CodeTree.{CodeTree, code_lit, code_truth, code_var, code_set_of, code_tuple, code_sum, code_sub, code_mul, code_neg, code_div, code_mod, code_min, code_max, code_compare, code_divides, code_and, code_or, code_not, code_union, code_inter, code_diff, code_subset, code_card, code_slice, code_fresh, code_if, code_let, code_solve, CodeTrees, no_codes, code_more, ItemTree, let_item, need_item, ItemTrees, no_items, item_more, ArmTree, arm_of, ArmTrees, no_arms, arm_more}
-use Rattle.cf_tree.specs.Meaning.{then_path, path, all_path, set_path, sum_path, best_path, join_path, items_path, item_path, arms_path, arm_path, meets, meets_all, tuple_at, count_below, gives_only, gives_truth, number_in, truth_in}
+use Rattle.cf_tree.specs.Meaning.{Got, got, none_at, Path, then_gives, then_path, if_some, or_later, path, all_path, set_path, sum_path, best_path, join_path, items_path, item_path, arms_path, arm_path, meets, meets_all, tuple_at, count_below, gives_only, gives_truth, number_in, truth_in}
 use Rattle.cf_tree.specs.Values.{Value}
 use Rattle.cf_tree.proofs.SetLemmas.{eq_is}
-use Rattle.cf_tree.specs.CodeView.{code_tree}
-use Rattle.cf_tree.specs.declared.code.Code.{Code}
-use Rattle.cf_tree.specs.declared.memory.NoMemory.{NoMemory}
 use Rattle.cf_range.specs.declared.range.Range.{Range}
 use Rattle.cf_range.specs.Alike.{Alike, AnswersAlike}
-use Rattle.cf_range.specs.Tidied.{is_minus_one, product, tidied, all_tidied, item_tidied, items_tidied, arm_tidied, arms_tidied, always_holds, other_items}
+use Rattle.cf_range.specs.Tidied.{is_minus_one, product, tidied, all_tidied, item_tidied, items_tidied, arm_tidied, arms_tidied, always_holds, other_items, needs_nothing, always_gives, reached}
+use Rattle.cf_range.specs.Settled.{settled}
 use Rattle.cf_range.proofs.NumberLemmas.{on_bool}
+use Rattle.cf_range.proofs.PutLaws.{eq_means}
+use Rattle.cf_range.proofs.RestLaws.{give_path, rest_path}
+use Rattle.cf_range.proofs.SettledLaws.{settled_answers}
 use Rattle.cf_range.proofs.AlikeLemmas.{alike_refl, alike_same, alike_trans, alike_then, alike_one, alike_two, alike_cond, alike_later, alike_some, alike_first, met_before}
 
 -- ---- the rows
+no_truth : false ≡ true → ⊥
+no_truth e = cc
+
+and_true : (a b : Bool) → (a && b) ≡ true → (a ≡ true) × (b ≡ true)
+and_true true b e = (refl, e)
+and_true false b e = cc
+
 minus_one_is : (c : CodeTree) → is_minus_one c ≡ true → c ≡ code_lit (negsuc 0)
 minus_one_is (code_lit k) e = ap code_lit (eq_is k (negsuc 0) e)
 minus_one_is (code_truth t) e = cc
@@ -101,6 +109,74 @@ others_alike (item_more i is) env =
     (met_before 0 (items_path js env) (items_path js env) (omega arith) (alike_refl (items_path js env)))))
     (λ e. rw e (alike_refl (items_path (item_more i js) env))))
 
+-- ---- an arm that always gives
+abbrev Never : Path (Option (List Value)) → Type 0
+Never p = p.gives ≡ got None → ⊥
+
+some_not : (e : List Value) → got (Some e) ≡ got None → ⊥
+some_not e h = cc
+
+stop_not : (k : ℕ) (o : Option (List Value)) → none_at k ≡ got o → ⊥
+stop_not k o h = cc
+
+then_never : {A : Type 0} (p : Path A) (go : A → Path (Option (List Value))) → ((x : A) → p.gives ≡ got x → Never (go x)) → Never (then_path p go)
+then_never {A = A} p go h = by p.gives (λ x e. h x e)
+  where
+    by : (g : Got A) → ((x : A) → g ≡ got x → Never (go x)) → then_gives g (λ x. (go x).gives) ≡ got None → ⊥
+    by (got x) f e = f x refl e
+    by (none_at n) f e = stop_not n None e
+
+items_never : (is : ItemTrees) (env : List Value) → needs_nothing is ≡ true → Never (items_path is env)
+items_never no_items env t = some_not env
+items_never (item_more (let_item c) is) env t =
+    then_never (item_path (let_item c) env) (λ next. if_some next (items_path is)) (λ o e. on_some (λ inner. items_never is inner t) o e)
+  where
+    on_some : ((inner : List Value) → Never (items_path is inner)) → (o : Option (List Value)) → (item_path (let_item c) env).gives ≡ got o →
+        Never (if_some o (items_path is))
+    on_some h None e = absurd (then_never (path c env) (λ x. gives_only (Some (env ++ x))) (λ x f. some_not (env ++ x)) e)
+    on_some h (Some inner) e = h inner
+items_never (item_more (need_item c) is) env t = absurd (no_truth t)
+
+rest_never : (is : ItemTrees) (gs : CodeTrees) (env : List Value) → needs_nothing is ≡ true → Never (rest_path is gs env)
+rest_never is gs env t = then_never (items_path is env) (λ next. if_some next (give_path gs)) on_next
+  where
+    on_next : (o : Option (List Value)) → (items_path is env).gives ≡ got o → Never (if_some o (give_path gs))
+    on_next None e = absurd (items_never is env t e)
+    on_next (Some inner) e = then_never (all_path gs inner []) (λ vs. gives_only (Some vs)) (λ vs f. some_not vs)
+
+no_bounds : (n : ℕ) → nat_eq (suc n) 0 ≡ true → ⊥
+no_bounds n e = let k = eq_means (suc n) 0 e in omega (arith, k)
+
+-- an arm without searches
+abbrev at_once : ItemTrees → CodeTrees → List Value → Path (Option (List Value))
+at_once is gs env = then_path (meets_all (tuple_at [] 0)) (λ ks. rest_path is gs (env ++ ks))
+
+at_once_never : (is : ItemTrees) (gs : CodeTrees) (env : List Value) → needs_nothing is ≡ true → Never (at_once is gs env)
+at_once_never is gs env t = then_never (meets_all (tuple_at [] 0)) (λ ks. rest_path is gs (env ++ ks)) (λ ks f. rest_never is gs (env ++ ks) t)
+
+arm_never : (a : ArmTree) (env : List Value) → always_gives a ≡ true → Never (arm_path a env)
+arm_never (arm_of (b ∷ bounds) is gs) env t = absurd (no_bounds (length bounds) (and_true (nat_eq (length (b ∷ bounds)) 0) (needs_nothing is) t).0)
+arm_never (arm_of [] is gs) env t = then_never (at_once is gs env) (λ o. or_later o (gives_only None)) on_found
+  where
+    on_found : (o : Option (List Value)) → (at_once is gs env).gives ≡ got o → Never (or_later o (gives_only None))
+    on_found None e = absurd (at_once_never is gs env (and_true (nat_eq 0 0) (needs_nothing is) t).1 e)
+    on_found (Some vs) e = some_not vs
+
+reached_alike : (arms : ArmTrees) (env : List Value) → Alike (arms_path arms env) (arms_path (reached arms) env)
+reached_alike no_arms env = alike_refl (arms_path no_arms env)
+reached_alike (arm_more a arms) env = alike_then (arm_path a env) (arm_path a env) _ _ (alike_refl (arm_path a env))
+    (λ o e l. by (always_gives a) o (λ t. on_found t o e) (reached_alike arms env))
+  where
+    on_found : always_gives a ≡ true → (o : Option (List Value)) → (arm_path a env).gives ≡ got o →
+        Alike (or_later o (arms_path arms env)) (or_later o (arms_path no_arms env))
+    on_found t None e = absurd (arm_never a env t e)
+    on_found t (Some vs) e = alike_refl (gives_only (Some vs))
+
+    by : (t : Bool) (o : Option (List Value)) → (t ≡ true → Alike (or_later o (arms_path arms env)) (or_later o (arms_path no_arms env))) →
+        Alike (arms_path arms env) (arms_path (reached arms) env) → Alike (or_later o (arms_path arms env)) (or_later o (arms_path (cond t no_arms (reached arms)) env))
+    by true o h k = h refl
+    by false o h k = alike_later o (arms_path arms env) (arms_path (reached arms) env) k
+
 -- ---- all forms
 mutual
   pub tidied_alike : (c : CodeTree) (env : List Value) → Alike (path c env) (path (tidied c) env)
@@ -138,7 +214,9 @@ mutual
   tidied_alike (code_if t a b) env = alike_then (path t env) (path (tidied t) env) _ _ (tidied_alike t env)
       (λ x e l. alike_cond (truth_in x) (path a env) (path (tidied a) env) (path b env) (path (tidied b) env) (tidied_alike a env) (tidied_alike b env))
   tidied_alike (code_let first count a b) env = alike_then (path a env) (path (tidied a) env) _ _ (tidied_alike a env) (λ x e l. tidied_alike b (env ++ x))
-  tidied_alike (code_solve n arms) env = alike_one (arms_path arms env) (arms_path (arms_tidied arms) env) _ (arms_alike arms env)
+  tidied_alike (code_solve n arms) env = alike_one (arms_path arms env) (arms_path (reached (arms_tidied arms)) env) _
+      (alike_trans (arms_path arms env) (arms_path (arms_tidied arms) env) (arms_path (reached (arms_tidied arms)) env) (arms_alike arms env)
+      (reached_alike (arms_tidied arms) env))
 
   all_alike : (cs : CodeTrees) (env done : List Value) → Alike (all_path cs env done) (all_path (all_tidied cs) env done)
   all_alike no_codes env done = alike_refl (gives_only done)
@@ -189,8 +267,9 @@ mutual
 pub tidied_answers : (rs : List Range) (c : CodeTree) → AnswersAlike rs c (tidied c)
 tidied_answers rs c env lie = tidied_alike c env
 
--- where there is the code, it answers alike
-pub answers_if : (rs : List Range) (c : CodeTree) (r : Result Code NoMemory) → IfOk r (λ new. code_tree new ≡ tidied c) →
-    IfOk r (λ new. AnswersAlike rs c (code_tree new))
-answers_if rs c (Ok new) e = subst (AnswersAlike rs c) (sym e) (tidied_answers rs c)
-answers_if rs c (Err fault) e = tt
+-- ---- one after another
+pub both_answer : (rs : List Range) (a b c : CodeTree) → AnswersAlike rs a b → AnswersAlike rs b c → AnswersAlike rs a c
+both_answer rs a b c h k env lie = alike_trans (path a env) (path b env) (path c env) (h env lie) (k env lie)
+
+pub once_answers : (rs : List Range) (a b c : CodeTree) → b ≡ settled rs a → c ≡ tidied b → AnswersAlike rs a c
+once_answers rs a b c e f = both_answer rs a b c (subst (AnswersAlike rs a) (sym e) (settled_answers rs a)) (subst (AnswersAlike rs b) (sym f) (tidied_answers rs b))

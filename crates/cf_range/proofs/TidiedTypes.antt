@@ -1,15 +1,18 @@
 -- Tidying keeps the types of a code.
-use Rattle.std.proofs.Common.{◌≡◌, ℕ, ◌+◌, ◌≤◌, Option, None, Result, Ok, Err, IfOk, List, ◌++◌, map, refl, sym, ap, subst}
+use Rattle.std.proofs.Common.{◌≡◌, ℕ, ◌+◌, ◌≤◌, Bool, true, false, cond, Option, None, List, ◌++◌, map, refl, sym, ap, subst}
 use Rattle.cf_tree.specs.declared.base.Base.{Base}
 use Rattle.cf_tree.specs.declared.base.Base.TheVariants.{Int, Bool as Truth, Set}
 use Rattle.cf_tree.specs.CodeTree.{CodeTree, code_lit, code_truth, code_var, code_set_of, code_tuple, code_sum, code_sub, code_mul, code_neg, code_div, code_mod, code_min, code_max, code_compare, code_divides, code_and, code_or, code_not, code_union, code_inter, code_diff, code_subset, code_card, code_slice, code_fresh, code_if, code_let, code_solve, CodeTrees, no_codes, code_more, ItemTree, let_item, need_item, ItemTrees, no_items, item_more, arm_of, ArmTrees, no_arms, arm_more, count}
-use Rattle.cf_tree.specs.Typing.{AllHave, PartsHave, ItemsHave, ArmsHave, HasNoSolve, HaveNoSolve, ItemHasNoSolve, ItemsHaveNoSolve, IsGiven, ask, one, share, side}
-use Rattle.cf_tree.specs.CodeView.{code_tree}
-use Rattle.cf_tree.specs.declared.code.Code.{Code}
-use Rattle.cf_tree.specs.declared.memory.NoMemory.{NoMemory}
+use Rattle.cf_tree.specs.Typing.{HasBases, AllHave, PartsHave, ItemsHave, ArmsHave, HasNoSolve, HaveNoSolve, ItemHasNoSolve, ItemsHaveNoSolve, IsGiven, ask, one, share, side}
+use Rattle.cf_range.specs.declared.range.Range.{Range}
 use Rattle.cf_range.specs.Alike.{KeepsTypes}
-use Rattle.cf_range.specs.Tidied.{is_minus_one, product, tidied, all_tidied, item_tidied, items_tidied, arms_tidied, always_holds, other_items}
+use Rattle.cf_range.specs.Tidied.{is_minus_one, product, tidied, all_tidied, item_tidied, items_tidied, arms_tidied, always_holds, other_items, always_gives, reached}
+use Rattle.cf_range.specs.Settled.{settled}
 use Rattle.cf_range.proofs.NumberLemmas.{on_bool}
+use Rattle.cf_range.proofs.SettledTypes.{settled_keeps_types}
+
+abbrev Keeps : CodeTree → CodeTree → Type 0
+Keeps old new = (scope : List Base) (asked : Option (List Base)) (bs : List Base) → HasBases old scope asked bs → HasBases new scope asked bs
 
 same_count : (cs : CodeTrees) → count cs ≡ count (all_tidied cs)
 same_count no_codes = refl
@@ -77,8 +80,20 @@ others_keep (item_more (need_item c) is) scope then h = on_bool (always_holds (n
     (λ e. rw e (others_keep is scope then h.1))
     (λ e. rw e (h.0, others_keep is scope then h.1))
 
-product_keeps : (a b : CodeTree) → KeepsTypes (code_mul a b) (product a b)
+product_keeps : (a b : CodeTree) → Keeps (code_mul a b) (product a b)
 product_keeps a b scope asked bs h = on_bool (is_minus_one a) (λ e. rw e (h.1, h.2)) (λ e. rw e h)
+
+reached_given : (arms : ArmTrees) (asked : Option (List Base)) (bs : List Base) → IsGiven arms asked bs → IsGiven (reached arms) asked bs
+reached_given no_arms asked bs h = h
+reached_given (arm_more a arms) asked bs h = h
+
+reached_has : (arms : ArmTrees) (scope bs : List Base) → ArmsHave arms scope bs → ArmsHave (reached arms) scope bs
+reached_has no_arms scope bs h = tt
+reached_has (arm_more (arm_of bounds is gs) arms) scope bs h = (h.0, h.1, h.2, h.3, more (always_gives (arm_of bounds is gs)) (reached_has arms scope bs h.4))
+  where
+    more : (t : Bool) → ArmsHave (reached arms) scope bs → ArmsHave (cond t no_arms (reached arms)) scope bs
+    more true k = tt
+    more false k = k
 
 given_keeps : (arms : ArmTrees) (asked : Option (List Base)) (bs : List Base) → IsGiven arms asked bs → IsGiven (arms_tidied arms) asked bs
 given_keeps no_arms asked bs h = h
@@ -87,8 +102,8 @@ given_keeps (arm_more a arms) asked bs h = h
 -- what is known of each item
 abbrev EachKeeps : ItemTrees → Type 0
 EachKeeps no_items = Unit {0}
-EachKeeps (item_more (let_item c) is) = KeepsTypes c (tidied c) × EachKeeps is
-EachKeeps (item_more (need_item c) is) = KeepsTypes c (tidied c) × EachKeeps is
+EachKeeps (item_more (let_item c) is) = Keeps c (tidied c) × EachKeeps is
+EachKeeps (item_more (need_item c) is) = Keeps c (tidied c) × EachKeeps is
 
 items_keep : (is : ItemTrees) → EachKeeps is → (scope : List Base) (before after : List Base → Type 0) →
     ((inner : List Base) → before inner → after inner) → ItemsHave is scope before → ItemsHave (items_tidied is) scope after
@@ -99,7 +114,7 @@ items_keep (item_more (need_item c) is) each scope before after k h =
     (each.0 scope (ask Truth) (one Truth) h.0, items_keep is each.1 scope before after k h.1)
 
 mutual
-  pub tidied_keeps : (c : CodeTree) → KeepsTypes c (tidied c)
+  pub tidied_keeps : (c : CodeTree) → Keeps c (tidied c)
   tidied_keeps (code_lit k) scope asked bs h = h
   tidied_keeps (code_truth t) scope asked bs h = h
   tidied_keeps (code_var x) scope asked bs h = h
@@ -128,7 +143,10 @@ mutual
   tidied_keeps (code_fresh a b) scope asked bs h = (tidied_keeps a scope (ask Set) (one Set) h.0, tidied_keeps b scope (ask Int) (one Int) h.1, h.2)
   tidied_keeps (code_if t a b) scope asked bs h = (tidied_keeps t scope (ask Truth) (one Truth) h.0, tidied_keeps a scope asked bs h.1, tidied_keeps b scope asked bs h.2)
   tidied_keeps (code_let first n a b) scope asked bs h = (h.0, tidied_keeps a scope None h.0 h.1, h.2, h.3, tidied_keeps b (scope ++ h.0) asked bs h.4)
-  tidied_keeps (code_solve n arms) scope asked bs h = (given_keeps arms asked bs h.0, arms_keep arms scope bs h.1)
+  tidied_keeps (code_solve n arms) scope asked bs h = (
+    reached_given (arms_tidied arms) asked bs (given_keeps arms asked bs h.0),
+    reached_has (arms_tidied arms) scope bs (arms_keep arms scope bs h.1),
+  )
 
   all_keep : (cs : CodeTrees) (scope : List Base) (b : Base) → AllHave cs scope b → AllHave (all_tidied cs) scope b
   all_keep no_codes scope b h = tt
@@ -157,6 +175,12 @@ mutual
     arms_keep arms scope bs h.4,
   )
 
-pub types_if : (c : CodeTree) (r : Result Code NoMemory) → IfOk r (λ new. code_tree new ≡ tidied c) → IfOk r (λ new. KeepsTypes c (code_tree new))
-types_if c (Ok new) e = subst (KeepsTypes c) (sym e) (tidied_keeps c)
-types_if c (Err fault) e = tt
+pub tidied_keeps_types : (rs : List Range) (c : CodeTree) → KeepsTypes rs c (tidied c)
+tidied_keeps_types rs c scope asked bs e h = tidied_keeps c scope asked bs h
+
+-- ---- one after another
+pub both_keep : (rs : List Range) (a b c : CodeTree) → KeepsTypes rs a b → KeepsTypes rs b c → KeepsTypes rs a c
+both_keep rs a b c h k scope asked bs e t = k scope asked bs e (h scope asked bs e t)
+
+pub once_keeps : (rs : List Range) (a b c : CodeTree) → b ≡ settled rs a → c ≡ tidied b → KeepsTypes rs a c
+once_keeps rs a b c e f = both_keep rs a b c (subst (KeepsTypes rs a) (sym e) (settled_keeps_types rs a)) (subst (KeepsTypes rs b) (sym f) (tidied_keeps_types rs b))

@@ -1,5 +1,5 @@
 -- When one code may stand for another: every reply stays.
-use Rattle.std.specs.Prelude.{◌≡◌, ◌≤◌, List, Option}
+use Rattle.std.specs.Prelude.{◌≡◌, ◌≤◌, List, length, Option}
 use Rattle.cf_num.specs.Limit.{limit}
 use Rattle.cf_tree.specs.declared.base.Base.{Base}
 use Rattle.cf_tree.specs.CodeTree.{CodeTree}
@@ -21,6 +21,7 @@ Alike p q = Follows p q × Follows q p
 abbrev pub AnswersAlike : List Range → CodeTree → CodeTree → Type 0
 AnswersAlike rs old new = (env : List Value) → LieIn rs env → Alike (path old env) (path new env)
 
--- each typing of the one is one of the other
-abbrev pub KeepsTypes : CodeTree → CodeTree → Type 0
-KeepsTypes old new = (scope : List Base) (asked : Option (List Base)) (bs : List Base) → HasBases old scope asked bs → HasBases new scope asked bs
+-- each typing of the one, in a scope of one base for each range, is one of the other
+abbrev pub KeepsTypes : List Range → CodeTree → CodeTree → Type 0
+KeepsTypes rs old new = (scope : List Base) (asked : Option (List Base)) (bs : List Base) → length scope ≡ length rs →
+    HasBases old scope asked bs → HasBases new scope asked bs

@@ -1,5 +1,5 @@
 -- What tidying makes of a code: each form by its row, parts first.
-use Rattle.std.specs.Prelude.{negsuc, Bool, false, if◌then◌else◌}
+use Rattle.std.specs.Prelude.{ℕ, ◌+◌, nat_eq, negsuc, Bool, true, false, not, ◌&&◌, length, if◌then◌else◌}
 use Rattle.std.specs.Ordering.{int_eq}
 use Rattle.cf_tree.specs.CodeTree.{CodeTree, code_lit, code_truth, code_var, code_set_of, code_tuple, code_sum, code_sub, code_mul, code_neg, code_div, code_mod, code_min, code_max, code_compare, code_divides, code_and, code_or, code_not, code_union, code_inter, code_diff, code_subset, code_card, code_slice, code_fresh, code_if, code_let, code_solve, CodeTrees, no_codes, code_more, ItemTree, let_item, need_item, ItemTrees, no_items, item_more, ArmTree, arm_of, ArmTrees, no_arms, arm_more}
 
@@ -20,6 +20,27 @@ always_holds i = false
 abbrev pub other_items : ItemTrees → ItemTrees
 other_items no_items = no_items
 other_items (item_more i is) = if always_holds i then other_items is else item_more i (other_items is)
+
+-- whether an arm gives wherever it is reached
+abbrev pub is_need : ItemTree → Bool
+is_need (let_item c) = false
+is_need (need_item c) = true
+
+abbrev pub needs_nothing : ItemTrees → Bool
+needs_nothing no_items = true
+needs_nothing (item_more i is) = not (is_need i) && needs_nothing is
+
+abbrev pub always_gives : ArmTree → Bool
+always_gives (arm_of bounds is gs) = nat_eq (length bounds) 0 && needs_nothing is
+
+-- how many arms may be reached, and these: what stands behind one that always gives goes
+abbrev pub count_reached : ArmTrees → ℕ
+count_reached no_arms = 0
+count_reached (arm_more a arms) = if always_gives a then 1 else 1 + count_reached arms
+
+abbrev pub reached : ArmTrees → ArmTrees
+reached no_arms = no_arms
+reached (arm_more a arms) = arm_more a (if always_gives a then no_arms else reached arms)
 
 abbrev mutual
   pub tidied : CodeTree → CodeTree
@@ -50,7 +71,7 @@ abbrev mutual
   tidied (code_fresh a b) = code_fresh (tidied a) (tidied b)
   tidied (code_if a b c) = code_if (tidied a) (tidied b) (tidied c)
   tidied (code_let first count a b) = code_let first count (tidied a) (tidied b)
-  tidied (code_solve n arms) = code_solve n (arms_tidied arms)
+  tidied (code_solve n arms) = code_solve n (reached (arms_tidied arms))
 
   pub all_tidied : CodeTrees → CodeTrees
   all_tidied no_codes = no_codes

@@ -4,7 +4,12 @@
 ghost use Rattle.cf_range.specs.RangeLaws.{ValuesLieInRanges, NeedNoChecks, RangesAdd, TotalCodesEvaluate};
 
 mod codes;
+mod counts;
+mod dropping;
+mod put;
 mod range;
+mod ranges;
+mod settle;
 mod tidy;
 mod total;
 

@@ -2,19 +2,33 @@
 ghost use Rattle.std.specs.Prelude.{◌≡◌, IfOk, map};
 ghost use Rattle.cf_tree.specs.CodeView.{code_tree, code_trees, item_tree, arm_tree, item_trees, arm_trees};
 ghost use Rattle.cf_range.specs.Alike.{AnswersAlike, KeepsTypes};
-ghost use Rattle.cf_range.specs.Tidied.{is_minus_one, product, tidied, all_tidied, item_tidied, items_tidied, arm_tidied, arms_tidied, always_holds, other_items};
+ghost use Rattle.cf_range.specs.Tidied.{is_minus_one, product, tidied, all_tidied, item_tidied, items_tidied, arm_tidied, arms_tidied, always_holds, other_items, is_need, needs_nothing, always_gives, count_reached, reached};
 
 use crate::range::Range;
+use crate::settle::settle;
 use cf_tree::{Arm, Code, Item, NoMemory, code_over_list, code_over_one, code_over_three};
 use std::alloc::Global;
 
-/// The code, tidied: wherever the variables lie in their ranges it gives what the code gives, or both pass the limit; and it
-/// has each typing of the code.
-pub fn tidied(alloc: Global, _ranges: &[Range], code: &Code) -> Result<Code, NoMemory>
-    ensures answers { IfOk result (λ new. AnswersAlike _ranges.now (code_tree code.now) (code_tree new)) }
-    ensures types { IfOk result (λ new. KeepsTypes (code_tree code.now) (code_tree new)) }
+/// The code, tidied: wherever the variables lie in their ranges it gives what the code gives, or both pass the limit; and in
+/// each scope of one base for each range it has each typing of the code.
+pub fn tidied(alloc: Global, ranges: &[Range], code: &Code) -> Result<Code, NoMemory>
+    ensures answers { IfOk result (λ new. AnswersAlike ranges.now (code_tree code.now) (code_tree new)) }
+    ensures types { IfOk result (λ new. KeepsTypes ranges.now (code_tree code.now) (code_tree new)) }
 {
-    tidy(alloc, code)
+    let first = once(alloc, ranges, code)?;
+    let second = once(alloc, ranges, &first)?;
+    let third = once(alloc, ranges, &second)?;
+    Ok(third)
+}
+
+// One row may make place for another.
+fn once(alloc: Global, ranges: &[Range], code: &Code) -> Result<Code, NoMemory>
+    ensures answers { IfOk result (λ new. AnswersAlike ranges.now (code_tree code.now) (code_tree new)) }
+    ensures types { IfOk result (λ new. KeepsTypes ranges.now (code_tree code.now) (code_tree new)) }
+{
+    let settled = settle(alloc, ranges, code)?;
+    let new = tidy(alloc, &settled)?;
+    Ok(new)
 }
 
 #[cycle(tidy)]
@@ -65,7 +79,8 @@ fn tidy(alloc: Global, code: &Code) -> Result<Code, NoMemory>
             Ok(code.over_three(first, second, third))
         }
         Code::Solve { number, arms } => {
-            let arms = tidy_arms(alloc, arms)?;
+            let mut arms = tidy_arms(alloc, arms)?;
+            drop_unreached(&mut arms);
             Ok(Code::Solve {
                 number: *number,
                 arms,
@@ -171,5 +186,52 @@ fn always_holds(item: &Item) -> bool
     match item {
         Item::Need(Code::Truth(t)) => *t,
         _ => false,
+    }
+}
+
+// What stands behind an arm that always gives goes.
+fn drop_unreached(arms: &mut Vec<Arm>)
+    ensures { arm_trees arms.new.items ≡ reached (arm_trees arms.old.items) }
+{
+    let n = count_reached(arms);
+    arms.truncate(n);
+}
+
+fn count_reached(arms: &[Arm]) -> usize
+    ensures { result ≡ count_reached (arm_trees arms.now) }
+{
+    let mut n = 0;
+    for arm in arms {
+        n += 1;
+        if always_gives(arm) {
+            return n;
+        }
+    }
+    n
+}
+
+fn always_gives(arm: &Arm) -> bool
+    ensures { result ≡ always_gives (arm_tree arm.now) }
+{
+    arm.bounds.len() == 0 && needs_nothing(&arm.items)
+}
+
+fn needs_nothing(items: &[Item]) -> bool
+    ensures { result ≡ needs_nothing (item_trees items.now) }
+{
+    for item in items {
+        if is_need(item) {
+            return false;
+        }
+    }
+    true
+}
+
+fn is_need(item: &Item) -> bool
+    ensures { result ≡ is_need (item_tree item.now) }
+{
+    match item {
+        Item::Let(_) => false,
+        Item::Need(_) => true,
     }
 }
