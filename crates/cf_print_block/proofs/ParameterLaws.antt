@@ -15,21 +15,21 @@ both_true false true e f = refl
 both_true true c e f = cc e
 both_true false false e f = cc f
 
-second_true : (b c : Bool) → (b && c) ≡ true → c ≡ true
+pub second_true : (b c : Bool) → (b && c) ≡ true → c ≡ true
 second_true true c e = e
 second_true false c e = cc e
 
-first_true : (b c : Bool) → (b && c) ≡ true → b ≡ true
+pub first_true : (b c : Bool) → (b && c) ≡ true → b ≡ true
 first_true true c e = refl
 first_true false c e = cc e
 
-true_and : (b c : Bool) → b ≡ true → c ≡ true → (b && c) ≡ true
+pub true_and : (b c : Bool) → b ≡ true → c ≡ true → (b && c) ≡ true
 true_and true true e f = refl
 true_and false c e f = cc e
 true_and true false e f = cc f
 
 -- a name behind others, of which it is none
-new_last : (seen xs : List (List ℕ)) (y : List ℕ) → differ_behind seen xs ≡ true → is_one_of y (seen ++ xs) ≡ false →
+pub new_last : (seen xs : List (List ℕ)) (y : List ℕ) → differ_behind seen xs ≡ true → is_one_of y (seen ++ xs) ≡ false →
     differ_behind seen (xs ++ (y ∷ [])) ≡ true
 new_last seen [] y e f = both_true (is_one_of y seen) true (subst (λ u. is_one_of y u ≡ false) (append_none seen) f) refl
 new_last seen (x ∷ xs) y e f =
