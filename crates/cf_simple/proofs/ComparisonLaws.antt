@@ -522,7 +522,6 @@ tight_holds go l None env g h =
 tight_holds go l (Some c) env g h = rw (h c refl) (decided_le (pos 0) c env)
 
 pub line_at_least : (n : ℕ) (l : Line) (env : List Value) → Holds (at_least n l) env ↔ (pos 0 ≤ℤ line_value l env)
-unfolding at_least
 line_at_least zero l env = sides_ge l env
 line_at_least (suc n) l env =
     then_same

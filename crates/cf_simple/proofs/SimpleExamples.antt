@@ -5,8 +5,7 @@ use Rattle.cf_num.specs.Divisors.{gcd_by}
 use Rattle.cf_tree.specs.declared.base.Order.TheVariants.{Eq, Ne, Lt, Le, Gt, Ge}
 use Rattle.cf_tree.specs.RelTree.{TermTree, term_lit, term_var, term_neg, term_add, term_sub, term_mul, term_div, term_mod, RelTree, rel_true, rel_false, rel_compare, rel_divides, rel_and, rel_or, rel_not}
 use Rattle.cf_simple.specs.Terms.{line_of}
-use Rattle.cf_simple.specs.Quotients.{nearest, line_term}
-use Rattle.cf_simple.specs.Comparisons.{at_least}
+use Rattle.cf_simple.specs.Quotients.{line_term}
 use Rattle.cf_simple.specs.Simple.{simple}
 
 abbrev a : TermTree
@@ -35,7 +34,7 @@ rows : map simple
     ∷ rel_compare Eq (term_add (term_lit (negsuc 0)) b) zero ∷ []) ≡
     rel_compare Le (term_add (times 2 b) (lit 3)) a ∷ rel_compare Le a (lit 4) ∷ rel_compare Ge a (term_neg (lit 3)) ∷ rel_compare Gt a b
     ∷ rel_compare Eq b (lit 1) ∷ []
-unfolding gcd_by nearest at_least
+unfolding gcd_by
 rows = refl
 
 -- what always holds, and what never does
@@ -43,7 +42,7 @@ constants : map simple (rel_compare Ge (lit 59) zero ∷ rel_compare Ge (term_li
     ∷ rel_divides (pos 2) (term_lit (negsuc 7)) ∷ rel_divides (pos 2) (lit 3)
     ∷ rel_compare Eq (times 2 a) (lit 3) ∷ []) ≡
     rel_true ∷ rel_false ∷ rel_true ∷ rel_false ∷ rel_false ∷ []
-unfolding gcd_by nearest at_least
+unfolding gcd_by
 constants = refl
 
 divisors : map simple (rel_divides (pos 2) (term_add (minus a) (minus b)) ∷ rel_divides (pos 3) (term_add (minus a) b)
@@ -51,7 +50,7 @@ divisors : map simple (rel_divides (pos 2) (term_add (minus a) (minus b)) ∷ re
     ∷ rel_divides (pos 5) (term_sub (times 7 a) (lit 3)) ∷ []) ≡
     rel_divides (pos 2) (term_add a b) ∷ rel_divides (pos 3) (term_sub a b) ∷ rel_divides (pos 2) (term_add a b)
     ∷ rel_divides (pos 5) (term_add (times 2 a) (lit 2)) ∷ []
-unfolding gcd_by nearest at_least
+unfolding gcd_by
 divisors = refl
 
 -- an even number lies between a and b; days are always weeks and days; a time is hours, minutes and seconds
@@ -61,23 +60,23 @@ quotients : map simple
     ∷ rel_compare Ge (term_div (term_div a (pos 60)) (pos 60)) zero
     ∷ rel_compare Ge (term_add (term_div a (pos 2)) (term_div (minus a) (pos 2))) zero ∷ []) ≡
     rel_compare Ge b (times 2 (term_div (term_add a (lit 1)) (pos 2))) ∷ rel_true ∷ rel_compare Ge a zero ∷ rel_divides (pos 2) a ∷ []
-unfolding gcd_by nearest at_least
+unfolding gcd_by
 quotients = refl
 
-abbrev above : ℕ → RelTree
-above n = rel_compare Ge a (lit n)
+abbrev at_least : ℕ → RelTree
+at_least n = rel_compare Ge a (lit n)
 
-abbrev below : ℕ → RelTree
-below n = rel_compare Le a (lit n)
+abbrev at_most : ℕ → RelTree
+at_most n = rel_compare Le a (lit n)
 
 -- bounds of one form are one: the nearer, the farther, one number, all but one, none, all
 bounds : map simple
-    (rel_and (above 2) (above 5) ∷ rel_or (above 2) (above 5) ∷ rel_and (below 2) (below 5) ∷ rel_or (below 2) (below 5)
-    ∷ rel_and (above 3) (below 3) ∷ rel_and (above 4) (below 3) ∷ rel_or (below 4) (above 6) ∷ rel_or (below 4) (above 5)
-    ∷ rel_and (above 0) (below 5) ∷ rel_or (below 0) (above 5) ∷ []) ≡
-    above 5 ∷ above 2 ∷ below 2 ∷ below 5 ∷ rel_compare Eq a (lit 3) ∷ rel_false ∷ rel_compare Ne a (lit 5) ∷ rel_true
-    ∷ rel_and (above 0) (below 5) ∷ rel_or (below 0) (above 5) ∷ []
-unfolding gcd_by nearest at_least
+    (rel_and (at_least 2) (at_least 5) ∷ rel_or (at_least 2) (at_least 5) ∷ rel_and (at_most 2) (at_most 5) ∷ rel_or (at_most 2) (at_most 5)
+    ∷ rel_and (at_least 3) (at_most 3) ∷ rel_and (at_least 4) (at_most 3) ∷ rel_or (at_most 4) (at_least 6) ∷ rel_or (at_most 4) (at_least 5)
+    ∷ rel_and (at_least 0) (at_most 5) ∷ rel_or (at_most 0) (at_least 5) ∷ []) ≡
+    at_least 5 ∷ at_least 2 ∷ at_most 2 ∷ at_most 5 ∷ rel_compare Eq a (lit 3) ∷ rel_false ∷ rel_compare Ne a (lit 5) ∷ rel_true
+    ∷ rel_and (at_least 0) (at_most 5) ∷ rel_or (at_most 0) (at_least 5) ∷ []
+unfolding gcd_by
 bounds = refl
 
 -- what decides nothing is left out, also within
@@ -86,13 +85,13 @@ left_out : map simple
     ∷ rel_or (rel_divides (pos 2) a) (rel_compare Ge (lit 1) (lit 0)) ∷ rel_or (rel_compare Ge (lit 0) (lit 1)) (rel_divides (pos 2) a)
     ∷ rel_not (rel_compare Ge a b) ∷ rel_not (rel_divides (pos 2) a) ∷ []) ≡
     rel_divides (pos 2) a ∷ rel_false ∷ rel_true ∷ rel_divides (pos 2) a ∷ rel_compare Lt a b ∷ rel_not (rel_divides (pos 2) a) ∷ []
-unfolding gcd_by nearest at_least
+unfolding gcd_by
 left_out = refl
 
 -- a bound behind other parts
-behind_others : simple (rel_and (rel_and (above 0) (rel_divides (pos 2) a)) (rel_and (below 9) (above 4))) ≡
-    rel_and (rel_and (above 4) (rel_divides (pos 2) a)) (below 9)
-unfolding gcd_by nearest at_least
+behind_others : simple (rel_and (rel_and (at_least 0) (rel_divides (pos 2) a)) (rel_and (at_most 9) (at_least 4))) ≡
+    rel_and (rel_and (at_least 4) (rel_divides (pos 2) a)) (at_most 9)
+unfolding gcd_by
 behind_others = refl
 
 -- the needs that an elimination leaves of `3600 * h + 60 * m + s == a && 0 <= h && 0 <= m < 60 && 0 <= s < 60`, with its lets put in
@@ -113,5 +112,5 @@ sum_from_zero t u = rel_compare Ge (term_add (term_add zero t) u) zero
 
 clock : simple (rel_and (rel_and (rel_and (rel_compare Ge (lit 59) zero) (sum_from_zero minutes less_minutes)) (rel_compare Ge hours zero))
     (sum_from_zero less_hours hours)) ≡ rel_compare Ge a zero
-unfolding gcd_by nearest at_least
+unfolding gcd_by
 clock = refl

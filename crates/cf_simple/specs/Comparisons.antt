@@ -146,6 +146,6 @@ at_least_tight go l (Some c) = decided (int_le (pos 0) c)
 at_least_tight go l None = after_turn go l (turn_of [] l.parts l.constant)
 
 -- a line is at least 0, once so many quotients have gone
-unfoldable pub at_least : ℕ → Line → RelTree
+abbrev pub at_least : ℕ → Line → RelTree
 at_least zero l = sides Ge l
 at_least (suc n) l = at_least_tight (at_least n) (tight l) (constant_of (tight l))

@@ -5,6 +5,3 @@ pub mod Comparisons
 pub mod Bounds
 pub mod Joined
 pub mod Simple
-pub mod LineView
-pub mod Between
-pub mod TurnAt

@@ -66,7 +66,7 @@ begins_negative (p ∷ ps) = int_lt p.factor (pos 0)
 
 -- ---- quotients by a number k of at least 1
 -- the multiple of k next to a number; in the middle between two it is the one nearer to 0
-unfoldable pub nearest : ℤ → ℤ → ℤ
+abbrev pub nearest : ℤ → ℤ → ℤ
 nearest k m =
     if int_lt (k -ℤ remainder m k) (remainder m k) || int_eq (k -ℤ remainder m k) (remainder m k) && int_lt m (pos 0) then quotient m k +ℤ pos 1
     else quotient m k
