@@ -14,9 +14,9 @@ use Rattle.cf_tree.specs.declared.base.Base.TheVariants.{Int, Set}
 use Rattle.cf_tree.specs.declared.base.Edition.TheVariants.{Two}
 use Rattle.cf_tree.specs.declared.base.Order.TheVariants.{Eq, Le}
 use Rattle.cf_tree.specs.declared.raw.Param.{Param}
-use Rattle.cf_linear.specs.Steps.{clean, pick, searched, dropped, searched_by, bound, bound_passes}
+use Rattle.cf_linear.specs.Steps.{clean, last, pick, searched, dropped, searched_by, bound, bound_passes}
 use Rattle.cf_linear.specs.Stages.{run, run_for, clean_stage, equation_stage, bound_stage, unknown_stage, row_stage, stage}
-use Rattle.cf_linear.specs.Cases.{disjuncts, system_of_case, write_atom}
+use Rattle.cf_linear.specs.Cases.{disjuncts, first_systems, system_of_case, write_atom}
 use Rattle.cf_linear.specs.Arm.{arm}
 use Rattle.cf_linear.specs.Chooses.{arms}
 use Rattle.cf_pass.specs.Passes.{Told}
@@ -75,7 +75,7 @@ abbrev numbered : ℕ → ChooseTree
 numbered n = record { number = n; names = []; scope = []; outputs = []; relation = rel_true }
 
 -- a number is at least 1, so the first choose is a first branch; those of one number count on, and each other number begins anew
-branches : map (λ c. (c.0.number, c.1)) (with_branches 0 0 (numbered 1 ∷ numbered 2 ∷ numbered 2 ∷ numbered 2 ∷ numbered 4 ∷ numbered 4 ∷ []))
+branches : map {B = ℕ × ℕ} (λ c. (c.0.number, c.1)) (with_branches 0 0 (numbered 1 ∷ numbered 2 ∷ numbered 2 ∷ numbered 2 ∷ numbered 4 ∷ numbered 4 ∷ []))
     ≡ (1, 0) ∷ (2, 0) ∷ (2, 1) ∷ (2, 2) ∷ (4, 0) ∷ (4, 1) ∷ []
 branches = refl
 
@@ -135,8 +135,8 @@ abbrev size : ChooseTree
 size = record { number = 1; names = codes "s" ∷ []; scope = Set ∷ []; outputs = Int ∷ []; relation = sized }
 
 numbers-alone : choose_has_form half ≡ true
-unfolding arms arm disjuncts system_of_case write_atom run run_for stage clean_stage equation_stage bound_stage unknown_stage row_stage clean
-    pick searched dropped searched_by bound bound_passes gcd_by factors_by parts_of
+unfolding arms arm first_systems disjuncts system_of_case write_atom run run_for stage clean_stage equation_stage bound_stage unknown_stage row_stage clean
+    last pick searched dropped searched_by bound bound_passes gcd_by factors_by parts_of
 numbers-alone = refl
 
 set-in_a_choose : choose_has_form size ≡ false
