@@ -1226,7 +1226,7 @@ const examples = [
   "lines": ""
  }
 ];
-const programSum = "9dde9641dc30c354b886a3cf7f178dd5efaff010d9873472d3a36f90f6826d26";
+const programSum = "e229f60957335929ac7aec1e3ee78eb0ddc3334b38cc82baf64945845dde4795";
 // What is read off the text of a program by its tokens.
 
 // The name that the program has for the page, and at home.
