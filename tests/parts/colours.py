@@ -90,7 +90,7 @@ def vim_errors(path: Path) -> tuple[str, list[Place]]:
         "for l in range(1, line('$')) | for c in range(1, len(getline(l))) | "
         "if synIDattr(synID(l, c, 1), 'name') == 'comfusyError' | call add(g:found, l . ' ' . c) | endif | endfor | endfor"
     )
-    words = ["vim", "-es", "-u", "NONE", "-i", "NONE", "-N", f"+set runtimepath^={ROOT}/editors/vim", "+filetype plugin on", "+syntax on"]
+    words = ["vim", "-n", "-es", "-u", "NONE", "-i", "NONE", "-N", f"+set runtimepath^={ROOT}/editors/vim", "+filetype plugin on", "+syntax on"]
     words += [f"+edit {path}", "+let g:found = [&filetype]", f"+{script}", "+call writefile(g:found, '/dev/stdout')", "+qall!"]
     said = subprocess.run(words, cwd=ROOT, stdin=subprocess.DEVNULL, stdout=subprocess.PIPE, text=True, check=False, timeout=60).stdout.split("\n")
     places = (line.split() for line in said[1:] if line)

@@ -24,7 +24,7 @@ Entry = tuple[str, int, int, str]
 
 def made(name: str, room: Room) -> list[Entry]:
     """The quickfix list behind `:make` on this file."""
-    words = ["vim", "-es", "-u", "NONE", "-i", "NONE", "-N", f"+set runtimepath^={ROOT}/editors/vim", "+filetype plugin on", f"+edit {name}"]
+    words = ["vim", "-n", "-es", "-u", "NONE", "-i", "NONE", "-N", f"+set runtimepath^={ROOT}/editors/vim", "+filetype plugin on", f"+edit {name}"]
     words += ["+silent make!", f"+call writefile([json_encode({LISTED})], 'listed')", "+qall!"]
     environment = os.environ | {"PATH": f"{room.folder}:{os.environ['PATH']}"}
     subprocess.run(words, cwd=room.folder, env=environment, stdin=subprocess.DEVNULL, capture_output=True, timeout=MOST_SECONDS, check=False)
