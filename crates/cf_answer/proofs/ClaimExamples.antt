@@ -168,17 +168,17 @@ status-of_sets = refl
 
 -- ---- what the parts answer
 module _ (q : ChooseTree) (qs : List ChooseTree) (old new : List ℕ) where
-  sets-of_a_choose : Same (GoalsAnswer {A = ℕ} q 0 old new (Err Sets)) (choose_has_form q ≡ false)
+  sets-of_a_choose : Same (GoalsAnswer q 0 old new (Err Sets)) (choose_has_form q ≡ false)
   sets-of_a_choose = (λ h. h, λ h. h)
 
-  memory-of_a_choose : GoalsAnswer {A = ℕ} q 0 old new (Err NoMemory)
+  memory-of_a_choose : GoalsAnswer q 0 old new (Err NoMemory)
   memory-of_a_choose = tt
 
-  put-of_a_choose : (c : Claim) → choose_has_form q ≡ true → IsClaimOf q 0 c → GoalsAnswer {A = ℕ} q 0 old (old ++ claim_text c) (Ok 0)
+  put-of_a_choose : (c : Claim) → choose_has_form q ≡ true → IsClaimOf q 0 c → GoalsAnswer q 0 old (old ++ claim_text c) (Ok tt)
   put-of_a_choose c form h = (form, c, h, refl)
 
-  sets-of_chooses : Same (GoalsWritten {A = ℕ} qs old new (Err Sets)) (list_all choose_has_form qs ≡ false)
+  sets-of_chooses : Same (GoalsWritten qs old new (Err Sets)) (list_all choose_has_form qs ≡ false)
   sets-of_chooses = (λ h. h, λ h. h)
 
-none-written : (old : List ℕ) → GoalsWritten {A = ℕ} [] old old (Ok 0)
+none-written : (old : List ℕ) → GoalsWritten [] old old (Ok tt)
 none-written old = (refl, [], sym (append-nil old), refl)

@@ -1,7 +1,7 @@
 -- Why `emit smt` refuses a source, and that it refuses none of which something is owed.
 use Rattle.std.proofs.Common.{◌≡◌, ◌∙◌, ◌⊎◌, inl, inr, refl, sym, ap, ap₂, subst, true≢false, ℕ, Bool, true, false, List, [], ◌∷◌, map, None, Some}
 use Rattle.std.specs.List.{list_all}
-use Rattle.std.specs.Prelude.{All, Ok, Err}
+use Rattle.std.specs.Prelude.{All, Ok}
 use Rattle.std.proofs.lemmas.List.Elements.{All-nil, All-cons, All-head, All-tail}
 use Rattle.cf_lex.specs.Editions.{edition_of}
 use Rattle.cf_tree.specs.ChooseTree.{ChooseTree}
@@ -19,7 +19,7 @@ use Rattle.cf_smt.specs.declared.claims.ClaimFault.{ClaimFault}
 use Rattle.cf_smt.specs.declared.claims.ClaimFault.TheVariants.{Sets, NoMemory}
 use Rattle.cf_answer.specs.Branches.{AreBranched, in_branches}
 use Rattle.cf_answer.specs.Certificates.{asked_in}
-use Rattle.cf_answer.specs.Claims.{all_have_forms, AreClaimed, choose_has_form, GoalsWritten, with_branches}
+use Rattle.cf_answer.specs.Claims.{all_have_forms, AreClaimed, choose_has_form, GoalsWritten, IsClaimFault, with_branches}
 use Rattle.cf_answer.specs.Limits.{of_source}
 use Rattle.cf_answer.specs.Owed.{AreGoals}
 use Rattle.cf_answer.specs.Refusals.{bad_tree, IsBadProgram, IsBadClaims, bad_claims, sets_claimed, IsRefusedClaims, IsRefusedSource}
@@ -97,11 +97,11 @@ module _ (source : List ℕ) (p : ToldProgram) (s : IsToldProgram source p) (ss 
       bad_tree is.0 fault.NoSetsInSmt is.1 (sets_claimed s.lowered.typed is.2
       (none_of_them (asked_in s.lowered.typed) (solved_within (asked_in s.lowered.typed) ss solved)) sets)
 
-  pub goals_fault : {A : Type 0} (f : ClaimFault) (g : Fault) (old new : List ℕ) →
+  pub goals_fault : (f : ClaimFault) (g : Fault) →
       (f ≡ Sets → g ≡ fault.NoSetsInSmt) × (f ≡ NoMemory → g ≡ fault.NoMemory) →
-      GoalsWritten {A = A} (asked_in s.lowered.typed) old new (Err f) → IsRefusedClaims source g ⊎ (g ≡ fault.NoMemory)
-  goals_fault Sets g old new is h = inl (subst (IsRefusedClaims source) (sym (is.0 refl)) (sets_refused h))
-  goals_fault NoMemory g old new is h = inr (is.1 refl)
+      IsClaimFault (list_all choose_has_form (asked_in s.lowered.typed)) f → IsRefusedClaims source g ⊎ (g ≡ fault.NoMemory)
+  goals_fault Sets g is h = inl (subst (IsRefusedClaims source) (sym (is.0 refl)) (sets_refused h))
+  goals_fault NoMemory g is h = inr (is.1 refl)
 
 pub claims_unrefused : (text : List ℕ) (cs : List (ChooseTree × Branch)) (written : List ℕ) (f : Fault) (b : AreBranched text cs) → AreGoals text cs written →
     IsRefusedClaims text f → ⊥

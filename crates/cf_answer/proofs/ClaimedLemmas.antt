@@ -1,11 +1,13 @@
 -- What is claimed of solved chooses, one after the other.
-use Rattle.std.proofs.Common.{◌≡◌, ◌∙◌, ◌<◌, ◌≤◌, ◌+◌, ◌&&◌, refl, sym, ap, subst, ℕ, Bool, true, false, List, [], ◌∷◌, ◌++◌, append_assoc, append-nil, drop, get_or, length, arith}
-use Rattle.std.proofs.lemmas.List.{drop_more, drop_all}
+use Rattle.std.proofs.Common.{◌≡◌, ◌∙◌, ◌<◌, ◌≤◌, ◌+◌, ◌&&◌, refl, sym, ap, ap₂, subst, ℕ, Bool, true, false, List, [], ◌∷◌, ◌++◌, append_assoc, append-nil, drop, get_or, length, arith}
+use Rattle.std.proofs.lemmas.List.{drop_more, drop_all, length-map}
 use Rattle.std.specs.List.{list_all}
 use Rattle.std.specs.Prelude.{Result, Ok, Err}
 use Rattle.cf_tree.specs.ChooseTree.{ChooseTree}
 use Rattle.cf_tree.specs.ChooseView.{choose_tree}
-use Rattle.cf_tree.specs.CodeTree.{CodeTree, code_solve}
+use Rattle.cf_tree.specs.CodeTree.{ArmTrees, CodeTree, code_solve}
+use Rattle.cf_tree.specs.RelView.{rel_tree}
+use Rattle.cf_tree.specs.declared.choose.Choose.{Choose}
 use Rattle.cf_tree.specs.CodeView.{arm_trees}
 use Rattle.cf_build.specs.Chooses.{choose_arms}
 use Rattle.cf_build.specs.Solves.{AreSolved, IsSolved}
@@ -13,13 +15,38 @@ use Rattle.cf_build.specs.declared.solves.SolvedChoose.{SolvedChoose}
 use Rattle.cf_build.proofs.SolveLists.{solved_number}
 use Rattle.cf_smt.specs.declared.claims.ClaimFault.{ClaimFault}
 use Rattle.cf_smt.specs.declared.claims.ClaimFault.TheVariants.{Sets, NoMemory}
-use Rattle.cf_answer.specs.Claims.{AreClaimed, branch_behind, choose_has_form, GoalsAnswer, GoalsWritten, IsClaimOf, with_branches}
+use Rattle.cf_answer.specs.Claims.{AreClaimed, branch_behind, choose_has_form, GoalsAnswer, GoalsWritten, IsClaimFault, IsClaimOf, with_branches}
+use Rattle.cf_smt.specs.Answers.{PutAnswer}
+use Rattle.cf_smt.specs.Forms.{rel_has_form, arms_have_forms}
 use Rattle.cf_smt.specs.Goals.{claim_text}
+use Rattle.cf_smt.specs.Names.{Claim}
 use Rattle.cf_answer.proofs.PreLemmas.{found_arms}
 use Rattle.cf_answer.proofs.WrittenLemmas.{as_many_solved, no_choose, solved_at}
 
+-- what is put of a claim is put of its choose
+claim_put : (q : ChooseTree) (k : ℕ) (c : Claim) (old new : List ℕ) (r : Result (Unit {0}) ClaimFault) → IsClaimOf q k c → PutAnswer c old new r →
+    GoalsAnswer q k old new r
+claim_put q k c old new (Ok done) is h =
+    (sym (ap₂ (λ p arms. rel_has_form p && arms_have_forms arms) is.relation is.arms) ∙ h.0, c, is, h.1)
+claim_put q k c old new (Err Sets) is h = sym (ap₂ (λ p arms. rel_has_form p && arms_have_forms arms) is.relation is.arms) ∙ h
+claim_put q k c old new (Err NoMemory) is h = tt
+
+pub named_put : (q : Choose) (k : ℕ) (scope outputs : List (List ℕ)) (arms : ArmTrees) (old new : List ℕ) (r : Result (Unit {0}) ClaimFault) →
+    length scope ≡ length q.scope.now → length outputs ≡ length q.outputs.now → arms ≡ choose_arms (choose_tree q) →
+    PutAnswer (record { number = q.number; branch = k; scope = scope; outputs = outputs; relation = rel_tree q.rel.now; arms = arms }) old new r →
+    GoalsAnswer (choose_tree q) k old new r
+named_put q k scope outputs arms old new r same_scope same_outputs same_arms put =
+    claim_put (choose_tree q) k _ old new r (record {
+      number = refl;
+      branch = refl;
+      scope = same_scope ∙ sym (length-map q.scope.now (λ p. p.name));
+      outputs = same_outputs;
+      relation = refl;
+      arms = same_arms;
+    }) put
+
 -- what is put of the solve of a solved choose is put of the choose
-pub solve_put : {A : Type 0} (q : ChooseTree) (s : SolvedChoose) (branch : ℕ) (old new : List ℕ) (code : CodeTree) (r : Result A ClaimFault) → IsSolved q s →
+pub solve_put : (q : ChooseTree) (s : SolvedChoose) (branch : ℕ) (old new : List ℕ) (code : CodeTree) (r : Result (Unit {0}) ClaimFault) → IsSolved q s →
     code ≡ code_solve s.choose.number (arm_trees s.solved.arms.items) →
     (code ≡ code_solve s.choose.number (choose_arms (choose_tree s.choose)) → GoalsAnswer (choose_tree s.choose) branch old new r) →
     GoalsAnswer q branch old new r
@@ -84,10 +111,10 @@ module _ (qs : List ChooseTree) (ss : List SolvedChoose) (s : AreSolved qs ss) w
       claimed_not put =
           sym so.forms ∙ ap (list_all choose_has_form) at ∙ ap (λ b. b && list_all choose_has_form (drop (i + 1) qs)) (put q solved)
 
-      pub claimed_fault : {A B : Type 0} (f : ClaimFault) (branch : ℕ) (new : List ℕ) →
-          ((p : ChooseTree) → IsSolved p x → GoalsAnswer {A = A} p branch now new (Err f)) → GoalsWritten {A = B} qs old new (Err f)
-      claimed_fault Sets branch new put = claimed_not put
-      claimed_fault NoMemory branch new put = tt
+      pub claimed_fault : (f : ClaimFault) → ((p : ChooseTree) → IsSolved p x → IsClaimFault (choose_has_form p) f) →
+          IsClaimFault (list_all choose_has_form qs) f
+      claimed_fault Sets put = claimed_not put
+      claimed_fault NoMemory put = tt
 
   pub claimed_last : (i last next : ℕ) (old now : List ℕ) → length ss ≤ i → ClaimedTo qs i last next old now → GoalsWritten qs old now (Ok tt)
   claimed_last i last next old now le so =

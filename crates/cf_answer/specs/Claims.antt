@@ -42,13 +42,16 @@ AreClaimed [] text = text ≡ []
 AreClaimed (c ∷ cs) text = (claim : Claim) × (more : List ℕ) × (text ≡ claim_text claim ++ more) × IsClaimOf c.0 c.1 claim × AreClaimed cs more
 
 -- ---- what the parts of it answer
--- the goals of a choose stand behind what was written, or a set stands in it, or memory ran out
-abbrev pub GoalsAnswer : {A : Type 0} → ChooseTree → ℕ → List ℕ → List ℕ → Result A ClaimFault → Type 0
-GoalsAnswer q k old new (Ok done) = (choose_has_form q ≡ true) × (c : Claim) × IsClaimOf q k c × (new ≡ old ++ claim_text c)
-GoalsAnswer q k old new (Err Sets) = choose_has_form q ≡ false
-GoalsAnswer q k old new (Err NoMemory) = Unit {0}
+-- a set stands where none may, or memory ran out
+abbrev pub IsClaimFault : Bool → ClaimFault → Type 0
+IsClaimFault forms Sets = forms ≡ false
+IsClaimFault forms NoMemory = Unit {0}
 
-abbrev pub GoalsWritten : {A : Type 0} → List ChooseTree → List ℕ → List ℕ → Result A ClaimFault → Type 0
+-- the goals of a choose stand behind what was written, or why they do not
+abbrev pub GoalsAnswer : ChooseTree → ℕ → List ℕ → List ℕ → Result (Unit {0}) ClaimFault → Type 0
+GoalsAnswer q k old new (Ok done) = (choose_has_form q ≡ true) × (c : Claim) × IsClaimOf q k c × (new ≡ old ++ claim_text c)
+GoalsAnswer q k old new (Err f) = IsClaimFault (choose_has_form q) f
+
+abbrev pub GoalsWritten : List ChooseTree → List ℕ → List ℕ → Result (Unit {0}) ClaimFault → Type 0
 GoalsWritten qs old new (Ok done) = (list_all choose_has_form qs ≡ true) × (more : List ℕ) × (new ≡ old ++ more) × AreClaimed (with_branches 0 0 qs) more
-GoalsWritten qs old new (Err Sets) = list_all choose_has_form qs ≡ false
-GoalsWritten qs old new (Err NoMemory) = Unit {0}
+GoalsWritten qs old new (Err f) = IsClaimFault (list_all choose_has_form qs) f

@@ -1,7 +1,11 @@
-use Rattle.std.proofs.Common.{subst}
+use Rattle.std.proofs.Common.{◌≡◌, rules, subst}
+use Rattle.std.specs.Prelude.{Ok}
 use Rattle.std.proofs.lemmas.Result.{err_from_is_err_and}
 use Rattle.cf_build.specs.Chooses.{by_number}
 use Rattle.cf_build.specs.Solves.{AreSolved}
+use Rattle.cf_smt.specs.Heads.{head_text}
+use Rattle.cf_answer.specs.Certificates.{asked_in}
+use Rattle.cf_answer.specs.Claims.{GoalsWritten}
 use Rattle.cf_answer.proofs.ClaimLemmas.{claims_refused, goals_fault, goals_made}
 use Rattle.cf_answer.proofs.LoweredLemmas.{lowered_chooses, lowered_refused}
 use Rattle.cf_answer.proofs.goals.goals.Goals as goal
@@ -16,12 +20,14 @@ pub returns-in-Ok : goal.returns-in-Ok
 returns-in-Ok c = λ s.
     let same = lowered_chooses c.args.source.now c.args.program.now.lowered _ s.lowered c.typed.ensures.value in
     let solved = subst (λ qs. AreSolved (by_number qs) c.in_ok-chooses.chooses.items) same c.in_ok-chooses.ensures.solved in
+    let head : c.put_head.new.out.items ≡ head_text c.args.source.now = search rules in
     goals_made c.args.source.now c.args.program.now s c.in_ok-chooses.chooses.items solved _
-    ((rw c.deref.ensures.value at c.in-Ok.ensures) _ solved)
+    (subst (λ old. GoalsWritten (asked_in s.lowered.typed) old c.put_all_goals.new.text.items (Ok tt)) head
+    ((rw c.deref.ensures.value at c.in-Ok.ensures) _ solved))
 
-pub returns-in-Err : goal.returns-in-Err
-returns-in-Err c = λ s.
+pub returns : goal.returns
+returns c = λ s.
     let same = lowered_chooses c.args.source.now c.args.program.now.lowered _ s.lowered c.typed.ensures.value in
     let solved = subst (λ qs. AreSolved (by_number qs) c.in_ok-chooses.chooses.items) same c.in_ok-chooses.ensures.solved in
-    goals_fault c.args.source.now c.args.program.now s c.in_ok-chooses.chooses.items solved c.in-Err.fault _ _ _ c.fault_of.ensures
+    goals_fault c.args.source.now c.args.program.now s c.in_ok-chooses.chooses.items solved c.in-Err.fault _ c.fault_of.ensures
     ((rw c.deref.ensures.value at c.in-Err.ensures) _ solved)
