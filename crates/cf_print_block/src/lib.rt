@@ -21,6 +21,4 @@ pub use crate::laws::parameters_differ;
 pub use crate::naming::{Role, names_for, pointers_for};
 pub use crate::place::{Giving, Place};
 pub use crate::printer::{Outputs, Printer};
-pub use crate::searches::Loops;
 pub use crate::statements::put_block;
-pub use crate::values::{AtHand, Wish};

@@ -27,10 +27,24 @@ use Rattle.cf_print_block.specs.Statements.{Parameters, with_parameter, with_par
 use Rattle.cf_print_block.specs.declared.naming.Role.{Role}
 use Rattle.cf_print_block.specs.declared.naming.Role.TheVariants.{Value as AValue, Pointer}
 use Rattle.cf_print_block.specs.declared.place.Place.{Place}
-use Rattle.cf_print_block.specs.declared.values.AtHand.{AtHand}
-use Rattle.cf_print_block.specs.declared.values.Wish.{Wish}
-use Rattle.cf_print_block.specs.declared.searches.Loops.{Loops}
 use Rattle.cf_print_block.proofs.ParameterLaws.{new_last, first_true, second_true, true_and, parameters_differ}
+
+-- ---- types that `cf_print_block` does not export, by what gives them
+abbrev type_of : {A : Type 0} → A → Type 0
+type_of {A = A} a = A
+
+abbrev result_of : {A B : Type 0} → (A → B) → Type 0
+result_of {B = B} f = B
+
+-- a value that is at hand, what is wished for its variable, and the draft in some loops
+abbrev AtHand : Type 0
+AtHand = type_of (first_at_hand [])
+
+abbrev Wish : Type 0
+Wish = type_of no_wish
+
+abbrev Loops : Setting → Type 0
+Loops s = result_of (with_loop s 0 0)
 
 -- ---- truth values and lists
 not_true : (b : Bool) → not b ≡ true → b ≡ false
@@ -749,21 +763,21 @@ told_grows s b later g p d =
     let lines = last_arm_lines s.language p b in behind_line s lines d (later p (put lines d)) (silent_last s.language p b) (g p (put lines d))
 
 -- ---- searches
-loop_fits : (s : Setting) (j k : ℕ) (l : Loops) → NamesFit s l.scope → NamesFit s (with_loop s j k l).scope
+loop_fits : (s : Setting) (j k : ℕ) (l : Loops s) → NamesFit s l.scope → NamesFit s (with_loop s j k l).scope
 unfolding with_loop
 loop_fits s j k l e =
     one_behind_fits s l.scope _ e (new_fit s.language l.draft.taken (name_in s l.draft.taken Int (Some (search_name j)))
     (made_new s l.draft.taken Int (Some (search_name j))))
 
-loops_fit : (s : Setting) (j : ℕ) (ks : List ℕ) (l : Loops) → NamesFit s l.scope → NamesFit s (loops_of s j ks l).scope
+loops_fit : (s : Setting) (j : ℕ) (ks : List ℕ) (l : Loops s) → NamesFit s l.scope → NamesFit s (loops_of s j ks l).scope
 loops_fit s j [] l e = e
 loops_fit s j (k ∷ ks) l e = loops_fit s (suc j) ks (with_loop s j k l) (loop_fits s j k l e)
 
 -- the lines with which a search begins, and those of several
-abbrev head_of : Setting → ℕ → ℕ → Loops → List ℕ
+abbrev head_of : (s : Setting) → ℕ → ℕ → Loops s → List ℕ
 head_of s j k l = line s.language l.depth (search_text s.language (name_in s l.draft.taken Int (Some (search_name j))) k)
 
-abbrev heads_of : Setting → ℕ → List ℕ → Loops → List ℕ
+abbrev heads_of : (s : Setting) → ℕ → List ℕ → Loops s → List ℕ
 heads_of s j [] l = []
 heads_of s j (k ∷ ks) l = head_of s j k l ++ heads_of s (suc j) ks (with_loop s j k l)
 
@@ -774,11 +788,11 @@ record Opened (s : Setting) (heads : List ℕ) (before after : Draft) : Type 0 w
   pub taken : after.taken ≡ before.taken ++ more
   pub functions : after.functions ≡ before.functions
 
-loop_opens : (s : Setting) (j k : ℕ) (l : Loops) → Opened s (head_of s j k l) l.draft (with_loop s j k l).draft
+loop_opens : (s : Setting) (j k : ℕ) (l : Loops s) → Opened s (head_of s j k l) l.draft (with_loop s j k l).draft
 unfolding with_loop taking put
 loop_opens s j k l = record { lines = refl; more = name_in s l.draft.taken Int (Some (search_name j)) ∷ []; taken = refl; functions = refl }
 
-loops_open : (s : Setting) (j : ℕ) (ks : List ℕ) (l : Loops) → Opened s (heads_of s j ks l) l.draft (loops_of s j ks l).draft
+loops_open : (s : Setting) (j : ℕ) (ks : List ℕ) (l : Loops s) → Opened s (heads_of s j ks l) l.draft (loops_of s j ks l).draft
 loops_open s j [] l = record { lines = sym (append-nil l.draft.lines); more = []; taken = sym (append-nil l.draft.taken); functions = refl }
 loops_open s j (k ∷ ks) l =
     let first : Opened s (head_of s j k l) l.draft (with_loop s j k l).draft = loop_opens s j k l in
@@ -801,17 +815,17 @@ ends_of l d (suc n) =
     ap (λ u. end_lines l (d + suc n) ++ u) (ends_of l d n) ∙ ap (λ x. end_lines l x ++ (loop_ends l (suc d) n ++ end_lines l d)) next ∙
     sym (append_assoc (end_lines l (suc d + n)) (loop_ends l (suc d) n) (end_lines l d))
 
-loop_depth : (s : Setting) (j k : ℕ) (l : Loops) → (with_loop s j k l).depth ≡ suc l.depth
+loop_depth : (s : Setting) (j k : ℕ) (l : Loops s) → (with_loop s j k l).depth ≡ suc l.depth
 unfolding with_loop
 loop_depth s j k l = refl
 
-loop_taken : (s : Setting) (j k : ℕ) (l : Loops) →
+loop_taken : (s : Setting) (j k : ℕ) (l : Loops s) →
     (with_loop s j k l).draft.taken ≡ l.draft.taken ++ (name_in s l.draft.taken Int (Some (search_name j)) ∷ [])
 unfolding with_loop taking put
 loop_taken s j k l = refl
 
 -- statements in one search, from its first line to its end
-in_search : (s : Setting) (j k : ℕ) (l : Loops) (inner : List (List ℕ)) (h t : List ℕ) (n : ℕ) →
+in_search : (s : Setting) (j k : ℕ) (l : Loops s) (inner : List (List ℕ)) (h t : List ℕ) (n : ℕ) →
     AreScoped s.language (with_loop s j k l).draft.taken (h ++ t ++ loop_ends s.language (with_loop s j k l).depth n) inner →
     AreScoped s.language l.draft.taken ((head_of s j k l ++ h) ++ t ++ loop_ends s.language l.depth (suc n)) l.draft.taken
 in_search s j k l inner h t n g =
@@ -824,7 +838,7 @@ in_search s j k l inner h t n g =
     (nested (head_of s j k l) h t ends (end_lines s.language l.depth) ∙ ap (λ u. (head_of s j k l ++ h) ++ t ++ u) (sym (ends_of s.language l.depth n)))
     (a_search x l.depth k (made_new s l.draft.taken Int (Some (search_name j))) here)
 
-in_searches : (s : Setting) (j : ℕ) (ks : List ℕ) (l : Loops) (t : List ℕ) (inner : List (List ℕ)) →
+in_searches : (s : Setting) (j : ℕ) (ks : List ℕ) (l : Loops s) (t : List ℕ) (inner : List (List ℕ)) →
     AreScoped s.language (loops_of s j ks l).draft.taken t inner →
     (end : List (List ℕ)) × AreScoped s.language l.draft.taken (heads_of s j ks l ++ t ++ loop_ends s.language l.depth (length ks)) end
 in_searches s j [] l t inner g = (inner, subst (λ u. AreScoped s.language l.draft.taken u inner) (sym (append-nil t)) g)
@@ -832,14 +846,14 @@ in_searches s j (k ∷ ks) l t inner g =
     let r = in_searches s (suc j) ks (with_loop s j k l) t inner g in
     (l.draft.taken, in_search s j k l r.0 (heads_of s (suc j) ks (with_loop s j k l)) t (length ks) r.1)
 
-all_searches : (s : Setting) (j k : ℕ) (ks : List ℕ) (l : Loops) (t : List ℕ) (inner : List (List ℕ)) →
+all_searches : (s : Setting) (j k : ℕ) (ks : List ℕ) (l : Loops s) (t : List ℕ) (inner : List (List ℕ)) →
     AreScoped s.language (loops_of s j (k ∷ ks) l).draft.taken t inner →
     AreScoped s.language l.draft.taken (heads_of s j (k ∷ ks) l ++ t ++ loop_ends s.language l.depth (suc (length ks))) l.draft.taken
 all_searches s j k ks l t inner g =
     let r = in_searches s (suc j) ks (with_loop s j k l) t inner g in
     in_search s j k l r.0 (heads_of s (suc j) ks (with_loop s j k l)) t (length ks) r.1
 
-closed_loops : (s : Setting) (k : ℕ) (ks : List ℕ) (l : Loops) (e : Draft) → Grows s (loops_of s 0 (k ∷ ks) l).draft e →
+closed_loops : (s : Setting) (k : ℕ) (ks : List ℕ) (l : Loops s) (e : Draft) → Grows s (loops_of s 0 (k ∷ ks) l).draft e →
     Grows s l.draft (put (loop_ends s.language l.depth (suc (length ks))) (freed (length l.draft.taken) e))
 unfolding put freed
 closed_loops s k ks l e g =
@@ -865,7 +879,7 @@ searched_grows : (s : Setting) (p : Place) (w : Sight) (k : ℕ) (ks : List ℕ)
 unfolding searched_arm
 searched_grows s p w k ks last body later d e g h =
     let lines = arm_lines s.language p last in
-    let outside : Loops = record { draft = put lines d; scope = w; depth = p.depth } in
+    let outside : Loops s = record { draft = put lines d; scope = w; depth = p.depth } in
     let l = loops_of s 0 (k ∷ ks) outside in
     let q : Place = record { depth = l.depth; exit = GoesOn; arms = 0; giving = p.giving } in
     let ended = body l.scope q l.draft in
