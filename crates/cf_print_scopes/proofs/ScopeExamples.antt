@@ -1,5 +1,5 @@
 -- Worked examples: names of one scope, and statements in which they are declared.
-use Rattle.std.specs.Prelude.{◌≡◌, pos, true, false, [], ◌∷◌, ◌++◌, codes, refl}
+use Rattle.std.specs.Prelude.{◌≡◌, pos, true, false, [], ◌∷◌, codes, refl}
 use Rattle.std.specs.List.{list_all}
 use Rattle.std.specs.Fmt.{digits}
 use Rattle.cf_tree.specs.declared.base.Base.TheVariants.{Int}

@@ -1,5 +1,6 @@
 //! What holds of the names in every printed program.
 #![tactic(auto)]
+
 ghost use Rattle.cf_print_scopes.specs.Files.{NamesOfFilesDiffer};
 ghost use Rattle.cf_print_scopes.specs.Scopes.{NamesDiffer};
 
