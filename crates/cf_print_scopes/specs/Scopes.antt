@@ -97,7 +97,7 @@ pub record Grows (s : Setting) (before after : Draft) : Type 0 where
 pub record NamesDiffer : Type 0 where
   -- wherever statements of a block are written, by fit names for its variables
   pub behind : (s : Setting) (w : Sight) (b : Block) (p : Place) (d : Draft) → list_all (is_fit s.language) w.names ≡ true → Grows s d (block s w b p d)
-  -- so the names in scope differ at each place where they do so in the beginning, and none is reserved
+  -- so behind such statements the names in scope differ where those before them do, and none is reserved
   pub keep : (l : Language) (scope end : List (List ℕ)) (t : List ℕ) → AreScoped l scope t end → AreNames l scope → AreNames l end
   -- and none is the name of a function for a part
   pub functions : (n k : ℕ) → n < 2 ^ 64 → suc k < 2 ^ 64 → names_function (numbered_name n k) ≡ true
