@@ -168,7 +168,7 @@ in_three = record {
 }
 
 none_unreached : AreUnreachedLines 1 (Residue (pos 2) (pos 0) ∷ Point (pos 3) ∷ []) []
-none_unreached = (false, (λ e. cc e), [], refl, false, (λ e. cc e), [], refl, refl)
+none_unreached = (false, (λ e. cc e), [], refl, (false, (λ e. cc e), [], refl, refl))
 
 few_tuples : (n tuples : ℕ) → tuples ≤ 10000 → tuples_line n tuples ≡ []
 few_tuples n tuples l = let e : nat_lt 10000 tuples ≡ false = grind arith in rw e refl

@@ -8,6 +8,6 @@ pub returns : goal.returns
 returns c =
     let matches = c.args.matches.now in
     λ told. rw c.nothing_unmet.ensures
-    (match_checked (file_view matches.file) (map match_tree matches.infos.now) told c.args.choose.now _ _ c.in_ok-put_behind_match.ensures.0 c.args.info.now
+    (match_checked (file_view matches.file) (map match_tree matches.infos.now) told c.args.choose.now _ _ _ c.in_ok-put_behind_match.ensures.0 c.args.info.now
     c.in_ok-covered.covered c.requires.among c.requires.number c.in_ok-covered.ensures
     (rw c.deref.ensures.value at c.in_ok-put_behind_match.ensures.1) c.in_ok-put_behind_match.ensures.2)

@@ -21,9 +21,8 @@ returns-in_err-checks c =
     let formed = c.args.source.now.formed in
     let told = rw c.chooses.ensures at c.in_err-checks.ensures in
     λ text is three.
-    let of = (is.0, is.1, is.2.formed) in
-    let s = formed_lowered text formed c.in_ok-lowered.lowered three of typed defs matches in
-    rw (p.1, p.2) (told text s (conditions_held text formed of))
+    let s = formed_lowered text formed c.in_ok-lowered.lowered three (is.0, is.1, is.2.formed) typed defs matches in
+    rw (p.1, p.2) (told text s (conditions_held text formed (is.0, is.1, is.2.formed)))
 
 pub returns : goal.returns
 returns c =
@@ -33,6 +32,5 @@ returns c =
     let formed = c.args.source.now.formed in
     let lines = rw (c.chooses.ensures, c.deref.ensures.value) at c.in_ok-checks.ensures in
     λ text is three.
-    let of = (is.0, is.1, is.2.formed) in
-    let s = formed_lowered text formed c.in_ok-lowered.lowered three of typed defs matches in
-    record { typed = s.typed; is = s.is; lines = lines text s (conditions_held text formed of) }
+    let s = formed_lowered text formed c.in_ok-lowered.lowered three (is.0, is.1, is.2.formed) typed defs matches in
+    record { typed = s.typed; is = s.is; lines = lines text s (conditions_held text formed (is.0, is.1, is.2.formed)) }
