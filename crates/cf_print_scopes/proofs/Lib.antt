@@ -1,0 +1,4 @@
+pub mod ScopeLaws
+pub mod FileLaws
+mod ScopeExamples
+mod FileExamples
