@@ -2,6 +2,7 @@
 
 from __future__ import annotations
 
+import re
 from collections.abc import Iterable, Sequence
 from dataclasses import dataclass
 from fnmatch import fnmatchcase
@@ -32,6 +33,11 @@ def ended(name: str, seen: Ended, status: int = 0, out: bytes = b"", err: bytes 
         if wrote != wanted:
             faults.append(f"{stream}: {short(wrote)}, wanted {short(wanted)}")
     return Check(name, tuple(faults))
+
+
+def without_places(text: bytes) -> bytes:
+    """What `check` writes of the source `file`, without the places before its lines."""
+    return re.sub(rb"(?m)^file:[0-9]+:[0-9]+: ", b"", text)
 
 
 def equal(name: str, *pairs: tuple[object, object]) -> Check:

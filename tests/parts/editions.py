@@ -1,12 +1,13 @@
-"""The examples of language 2 under the header of edition 3: each command writes the same, but for the header of a target, and what `check` decides more."""
+"""The examples of language 2 under the header of edition 3: each command writes the same, but for a target's header, and places and answers of `check`."""
 
 from __future__ import annotations
 
 from collections.abc import Iterator
+from dataclasses import replace
 from functools import partial
 
 from harness import examples
-from harness.checks import Check, ended
+from harness.checks import Check, ended, without_places
 from harness.examples import is_late, text_of
 from harness.jobs import Job
 from harness.program import NO_INPUT, Room
@@ -44,7 +45,8 @@ def try_example(name: str, room: Room) -> Iterator[Check]:
         return
     for command in COMMANDS:
         wanted = wanted_of(command, name, room.run((command, path), NO_INPUT).out)
-        yield ended(f"edition 3 of {name}, {command}", room.run((command, "file"), NO_INPUT), 0, wanted)
+        seen = room.run((command, "file"), NO_INPUT)
+        yield ended(f"edition 3 of {name}, {command}", replace(seen, out=without_places(seen.out)), 0, wanted)
 
 
 def jobs() -> Iterator[Job]:

@@ -11,7 +11,8 @@
 In a table whose name begins with `refused` a row is COMMANDS, STATUS, WRITTEN, PROGRAM: with what commands refuse a program of the name `p.cf`. They are
 `every` command on a source; all `but run`, which takes products with inputs; all `but verify`, which does not look into a choose; or `run` alone.
 In a table whose name begins with `steps` a row is STATUS, WRITTEN, STEPS, PROGRAM: what `verify` writes of the steps.
-In a table whose name begins with `verdicts` a row is VERDICTS, PROGRAM: how each line that `check` writes of a program begins, without samples.
+In a table whose name begins with `verdicts` a row is VERDICTS, PROGRAM: how each line that `check` writes of a program begins, without samples. In `verdicts`
+the places of lines are left out, too.
 In a table whose name begins with `strict` a row is STRICT, UNIQUE, PROGRAM: what `check --strict` and `check --strict --unique` find in a program, which is
 `yes`, or how many answers are not, as `2 no` or `1 undecided`; they write what `check` writes.
 In a table whose name begins with `words` a row has a status and the words of a command line, each in a column: none is `-`. The files `source`,
@@ -27,7 +28,7 @@ from itertools import islice
 from pathlib import Path
 
 from harness import examples
-from harness.checks import Check, ended
+from harness.checks import Check, ended, without_places
 from harness.jobs import Checks, Job, whole
 from harness.program import NO_INPUT, USAGE, Ended, Room
 from harness.refusals import status_of
@@ -97,11 +98,17 @@ def try_written(row: Row, room: Room) -> Iterator[Check]:
         yield try_verified(name, "file", text, room)
 
 
+def verdict_in(line: bytes) -> bytes:
+    """A line of `check` without its sample, its outputs or its limit."""
+    return re.sub(rb"( for (?!no inputs|any inputs)|(?<=two outputs): |(?<=undecided): ).*", b"", line)
+
+
 def try_verdicts(row: Row, room: Room) -> Iterator[Check]:
     verdicts, program = row.texts
     room.put("file", program)
     seen = room.run(("check", "file"), NO_INPUT)
-    lines = [re.sub(rb"( for |: (?!no |two |outputs |existence |uniqueness |covers |misses |coverage )).*", b"", line) for line in seen.out.splitlines()]
+    out = without_places(seen.out) if row.table == "verdicts" else seen.out
+    lines = [verdict_in(line) for line in out.splitlines()]
     faults = () if seen.status == 0 and lines == verdicts.splitlines() else (f"status {seen.status}, wrote {seen.out!r} {seen.err!r}",)
     yield Check(row.name(row.columns[-1]), faults)
 

@@ -26,7 +26,7 @@ def try_example(name: str, room: Room) -> Iterator[Check]:
             yield try_refused(name, command, room)
         return
     for command, kind in KINDS.items():
-        yield try_command(name, command, examples.source(name), kind, room)
+        yield try_command(name, command, examples.named(name), kind, room)
     yield try_command(name, "exec", expectation(name, "target"), "out", room)
     yield try_verified(f"example {name}", examples.source(name), text_of(expectation(name, "steps")), room)
 

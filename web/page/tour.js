@@ -62,7 +62,7 @@ export const tour = [
     example: 'wait',
     change: {from: 'wait < HALF_DAY', to: 'wait <= HALF_DAY'},
     tab: 'check',
-    seen: ['choose 1: two outputs for t = -720: 0 and 720'],
+    seen: ['program.cf:5:25: choose 1: two outputs for t = -720: 0 and 720'],
   },
   {
     title: 'Fix it',
@@ -73,12 +73,12 @@ export const tour = [
     example: 'wait',
     change: {from: 'wait < HALF_DAY', to: 'wait <= HALF_DAY'},
     tab: 'check',
-    seen: ['choose 1: two outputs for t = -720: 0 and 720'],
+    seen: ['program.cf:5:25: choose 1: two outputs for t = -720: 0 and 720'],
     offer: {
       label: 'Fix it',
       from: 'wait <= HALF_DAY',
       to: 'wait < HALF_DAY',
-      seen: ['choose 1: outputs always', 'choose 1: outputs unique'],
+      seen: ['program.cf:5:25: choose 1: outputs always', 'program.cf:5:25: choose 1: outputs unique'],
     },
   },
   {
@@ -91,12 +91,12 @@ export const tour = [
     ],
     example: 'pair',
     tab: 'check',
-    seen: ['choose 1: no outputs for sum = -1, difference = 0'],
+    seen: ['program.cf:4:3: choose 1: no outputs for sum = -1, difference = 0'],
     offer: {
       label: 'Say so',
       from: ' where x',
       to: '\n  given 2 divides sum + difference\n  where x',
-      seen: ['choose 1: outputs always', 'choose 1: outputs unique'],
+      seen: ['program.cf:4:3: choose 1: outputs always', 'program.cf:4:3: choose 1: outputs unique'],
     },
   },
   {

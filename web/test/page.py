@@ -25,7 +25,7 @@ def try_examples(reader):
         for command, out, err in answers_of(name):
             seen = reader.press(command)
             written = seen["replies"] if command == "run" else [line for line in seen["written"] if line]
-            reader.judge.judge(f"page, {name} {command}", [written, seen["told"]], [lines_of(out), err.strip()])
+            reader.judge.judge(f"page, {name} {command}", [written, seen["told"]], [lines_of(out.replace(f"examples/{name}.cf:", "program.cf:")), err.strip()])
         fits = reader.eval("[...document.querySelectorAll('.editor textarea')].every(it => it.scrollHeight <= it.clientHeight)")
         reader.judge.judge(f"page, {name}, the text lies over its colours", fits, True)
 

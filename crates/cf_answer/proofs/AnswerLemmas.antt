@@ -347,7 +347,7 @@ part_answers c given last files printed bytes input old new f e unlimited p owed
 
 -- how `check` ends where `out` took a prefix of its lines
 pub part_checked : (strictness : Strictness) (file : List ℕ) (given : List Told) (source printed : List ℕ) (a : Answered) (input : SourceSeen)
-    (old new : SinkSeen) (f : Fault) → AreSourceChecks source printed a → TookPrefix old.held new.held printed → IsOutFault f →
+    (old new : SinkSeen) (f : Fault) → AreSourceChecks file source printed a → TookPrefix old.held new.held printed → IsOutFault f →
     Counts (failed f ≡ Err fault.Output) old.faults new.faults →
     AnswersOn (check strictness file) given given (source ∷ []) (streams input old) (streams input new) (Err f)
 part_checked strictness file given source printed a input old new f checks some fault count =
@@ -356,7 +356,7 @@ part_checked strictness file given source printed a input old new f checks some 
 
 -- how `check` ends where all its lines were written
 module _ (strictness : Strictness) (file : List ℕ) (given : List Told) (source printed : List ℕ) (a : Answered) (input : SourceSeen) (old new : SinkSeen)
-    (checks : AreSourceChecks source printed a) (all : Appends old.held new.held printed) (same : new.faults ≡ old.faults) where
+    (checks : AreSourceChecks file source printed a) (all : Appends old.held new.held printed) (same : new.faults ≡ old.faults) where
   abbrev unmet : Unmet
   unmet = unmet_for strictness a
 

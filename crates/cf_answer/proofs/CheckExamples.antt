@@ -1,12 +1,13 @@
 -- Worked examples of the lines of `check`.
-use Rattle.std.proofs.Common.{◌≡◌, ap, refl, Ok, Err, ℕ, zero, suc, pos, negsuc, List, [], ◌∷◌, Vec, Global, arith, codes}
+use Rattle.std.proofs.Common.{◌≡◌, ◌≤◌, ap, refl, sym, subst, Ok, Err, Some, None, ℕ, zero, suc, pos, negsuc, false, nat_lt, List, [], ◌∷◌, Vec, Global, arith, codes}
+use Rattle.std.proofs.lemmas.Int.{ints}
 use Rattle.std.specs.Fmt.{digits}
 use Rattle.std.specs.Prelude.{Contains}
 use Rattle.std.proofs.lemmas.List.Elements.{All-nil, All-cons}
 use Rattle.cf_tree.specs.declared.base.Base.TheVariants.{Int, Set}
 use Rattle.cf_tree.specs.declared.base.Edition.TheVariants.{Two, Three}
-use Rattle.cf_tree.specs.declared.base.Order.TheVariants.{Eq}
-use Rattle.cf_tree.specs.RelTree.{term_lit, term_var, term_add, term_mul, set_var, rel_false, rel_compare, rel_subset, rel_and}
+use Rattle.cf_tree.specs.declared.base.Order.TheVariants.{Eq, Ge}
+use Rattle.cf_tree.specs.RelTree.{RelTree, term_lit, term_var, term_add, term_mul, set_var, rel_true, rel_false, rel_compare, rel_subset, rel_and}
 use Rattle.cf_linear.specs.declared.refusal.LimitKind.TheVariants as kind
 use Rattle.cf_linear.specs.declared.refusal.Refusal.TheVariants as refusal
 use Rattle.cf_match.specs.Classes.{IsIn}
@@ -22,7 +23,12 @@ use Rattle.cf_warn.specs.declared.answer.UniquenessAnswer.TheVariants as uniquen
 use Rattle.cf_warn.specs.declared.coverage.Cover.TheVariants as cover
 use Rattle.cf_warn.specs.Covers.{IsCover}
 use Rattle.cf_warn.specs.Verdicts.{IsExistence, IsUniqueness}
-use Rattle.cf_answer.specs.Checks.{existence_line, uniqueness_line, cover_line, IsOwn, AreLines, of_choose, of_arm, of_match}
+use Rattle.cf_form.specs.Told.{ToldChoose}
+use Rattle.cf_warn.specs.Missing.{tuple_count}
+use Rattle.cf_answer.specs.Checks.{existence_line, uniqueness_line, cover_line, tuples_line, unbounded_line, unreached_line, unused_lines, AreAskedLines, never, no_inputs, AreUnreachedLines, IsOwn, AreLines, of_choose, of_arm, of_match}
+use Rattle.cf_answer.specs.Fronts.{File, output_names, written_in}
+use Rattle.cf_answer.specs.Tells.{HasNoInputs, HasNone, TellsNever, TellsNoInputs, TellsUnreached}
+use Rattle.cf_answer.specs.ToldChecks.{Asked}
 use Rattle.cf_answer.specs.Texts.{fault_line}
 use Rattle.cf_answer.specs.Unmet.{answered, judged, nothing_answered, nothing_unmet, one_no, one_undecided, unmet_for, with_answered}
 use Rattle.cf_answer.specs.declared.fault.Fault.TheVariants as fault
@@ -150,30 +156,51 @@ of_first_arm = record {
 abbrev of_no_arm : ChooseTree
 of_no_arm = record { number = 1; names = codes "a" ∷ codes "match" ∷ []; scope = Int ∷ Int ∷ []; outputs = Int ∷ []; relation = rel_false }
 
+-- the sources that are checked: of language 2, and of edition 3, in which nothing stands at a number but at 2
+abbrev in_two : File
+in_two = record { edition = Two; name = codes "f"; spots = [] }
+
+abbrev in_three : File
+in_three = record {
+  edition = Three;
+  name = codes "f";
+  spots = record { place = record { line = 3; column = 5 }; outputs = [] } ∷ record { place = record { line = 4; column = 7 }; outputs = codes "i" ∷ [] } ∷ [];
+}
+
+none_unreached : AreUnreachedLines 1 (Residue (pos 2) (pos 0) ∷ Point (pos 3) ∷ []) []
+none_unreached = (false, (λ e. cc e), [], refl, (false, (λ e. cc e), [], refl, refl))
+
+few_tuples : (n tuples : ℕ) → tuples ≤ 10000 → tuples_line n tuples ≡ []
+few_tuples n tuples l = let e : nat_lt 10000 tuples ≡ false = grind arith in rw e refl
+
 two_lines : IsOwn one_match 7 → IsExistence some_choose.scope some_choose.outputs some_choose.relation existence.Always →
     IsUniqueness some_choose.scope some_choose.outputs 2 some_choose.relation uniqueness.Unique →
-    AreLines Two one_match [] some_choose (codes "choose 7: outputs always\nchoose 7: outputs unique\n") (answered nothing_unmet nothing_unmet)
+    AreLines in_two one_match [] some_choose (codes "choose 7: outputs always\nchoose 7: outputs unique\n") (answered nothing_unmet nothing_unmet)
 unfolding digits
 two_lines own e u = of_choose own refl existence.Always uniqueness.Unique e u
 
 one_line_of_an_arm : IsUniqueness of_first_arm.scope of_first_arm.outputs 1 of_first_arm.relation (uniqueness.Undecided Overflow) →
-    AreLines Two one_match [] of_first_arm (codes "choose 2: uniqueness undecided: overflow\n") (answered nothing_unmet one_undecided)
+    AreLines in_two one_match [] of_first_arm (codes "choose 2: uniqueness undecided: overflow\n") (answered nothing_unmet one_undecided)
 unfolding digits
-one_line_of_an_arm u = of_arm _ there (0, omega arith, refl) (uniqueness.Undecided Overflow) u
+one_line_of_an_arm u = of_arm _ there (0, omega arith, refl) (uniqueness.Undecided Overflow) u [] refl
 
 one_line_of_a_match : IsCover (Residue (pos 2) (pos 0) ∷ Point (pos 3) ∷ []) (cover.Misses (pos 5)) →
-    AreLines Two one_match [] of_no_arm (codes "match 1: misses 5\n") (answered one_no nothing_unmet)
+    AreLines in_two one_match [] of_no_arm (codes "match 1: misses 5\n") (answered one_no nothing_unmet)
 unfolding digits
-one_line_of_a_match c = of_match _ there refl (cover.Misses (pos 5)) c
+one_line_of_a_match c = of_match _ there refl (cover.Misses (pos 5)) c [] refl
 
 -- in edition 3 nothing is said of how long it was asked
-undecided_arm_of_three : AreLines Three one_match [] of_first_arm (codes "choose 2: uniqueness undecided: overflow\n") (answered nothing_unmet one_undecided)
+undecided_arm_of_three : tuple_count of_first_arm.scope of_first_arm.outputs of_first_arm.relation ≤ 10000 →
+    AreLines in_three one_match [] of_first_arm (codes "choose 2: uniqueness undecided: overflow\n") (answered nothing_unmet one_undecided)
 unfolding digits
-undecided_arm_of_three = of_arm _ there (0, omega arith, refl) (uniqueness.Undecided Overflow) tt
+undecided_arm_of_three q = of_arm _ there (0, omega arith, refl) (uniqueness.Undecided Overflow) tt [] ([], (false, (λ e. cc e), [], refl, refl), few q)
+  where
+    few : tuple_count of_first_arm.scope of_first_arm.outputs of_first_arm.relation ≤ 10000 → [] ≡ tuples_line 2 (tuple_count of_first_arm.scope of_first_arm.outputs of_first_arm.relation)
+    few l = sym (few_tuples 2 _ l)
 
-undecided_match_of_three : AreLines Three one_match [] of_no_arm (codes "match 1: coverage undecided: overflow\n") (answered one_undecided nothing_unmet)
+undecided_match_of_three : AreLines in_three one_match [] of_no_arm (codes "match 1: coverage undecided: overflow\n") (answered one_undecided nothing_unmet)
 unfolding digits
-undecided_match_of_three = of_match _ there refl (cover.Undecided Overflow) tt
+undecided_match_of_three = of_match _ there refl (cover.Undecided Overflow) tt [] none_unreached
 
 -- nor how it is known that no class holds a number
 five_is_odd : IsIn (Residue (pos 2) (pos 0)) (pos 5) → ⊥
@@ -182,12 +209,76 @@ five_is_odd h = cc
 five_is_not_three : IsIn (Point (pos 3)) (pos 5) → ⊥
 five_is_not_three h = cc
 
-missed_match_of_three : AreLines Three one_match [] of_no_arm (codes "match 1: misses 5\n") (answered one_no nothing_unmet)
+missed_match_of_three : AreLines in_three one_match [] of_no_arm (codes "match 1: misses 5\n") (answered one_no nothing_unmet)
 unfolding digits
 missed_match_of_three =
     let misses : Class → Type 0 = λ c. IsIn c (pos 5) → ⊥ in
     of_match _ there refl (cover.Misses (pos 5))
     (All-cons misses (Residue (pos 2) (pos 0)) (Point (pos 3) ∷ []) five_is_odd (All-cons misses (Point (pos 3)) [] five_is_not_three (All-nil misses)))
+    [] none_unreached
+
+-- ---- as they are written
+written_of_two : written_in in_two 2 (codes "choose 2: outputs unique\n") ≡ codes "choose 2: outputs unique\n"
+written_of_two = refl
+
+-- each line begins with the place of its number
+written_of_three : written_in in_three 2 (codes "choose 2: outputs unique\nchoose 2: nothing bounds output i\n") ≡ codes
+    "f:4:7: choose 2: outputs unique\nf:4:7: choose 2: nothing bounds output i\n"
+unfolding digits
+written_of_three = refl
+
+named_variable : output_names in_three 2 ≡ codes "i" ∷ []
+named_variable = refl
+
+-- ---- lines beside the answers
+unbounded : unbounded_line 2 (codes "i") ≡ codes "choose 2: nothing bounds output i\n"
+unfolding digits
+unbounded = refl
+
+-- the second arm has the number 1 here, and is told as arm 2
+unreached : unreached_line 1 1 ≡ codes "match 1: no number reaches arm 2\n"
+unfolding digits
+unreached = refl
+
+many : tuples_line 2 10001 ≡ codes "choose 2: a line may try 10001 tuples\n"
+unfolding digits
+many = refl
+
+not_many : tuples_line 2 10000 ≡ []
+not_many = refl
+
+unused : unused_lines (codes "f") (record { place = record { line = 1; column = 10 }; name = codes "a"; base = Int } ∷ []) ≡ codes
+    "f:1:10: nothing uses parameter a\n"
+unfolding digits
+unused = refl
+
+-- 3 is odd, so an arm of 3 behind one of the odd numbers is not reached
+unreached_three : TellsUnreached (Residue (pos 2) (pos 1) ∷ Point (pos 3) ∷ []) 1 (Point (pos 3))
+unreached_three z is = (0, Residue (pos 2) (pos 1), omega arith, refl, subst (λ x. IsIn (Residue (pos 2) (pos 1)) x) (sym is) refl)
+
+-- a condition `0 >= 1` holds for no inputs, and a relation `0 >= 1` for no outputs
+abbrev asked_nothing : Asked
+asked_nothing = record { scope = []; outputs = Int ∷ []; shown = Int ∷ []; levels = [] }
+
+abbrev never_true : RelTree
+never_true = rel_compare Ge (term_lit (pos 0)) (term_lit (pos 1))
+
+no_inputs_at_all : HasNoInputs asked_nothing (record { truths = []; relation = rel_true; given = Some never_true })
+no_inputs_at_all env i = let h = i.allowed in omega (arith, ints, h)
+
+never_at_all : HasNone asked_nothing (record { truths = []; relation = never_true; given = None }) []
+never_at_all xs s = let h = s.1 in omega (arith, ints, h)
+
+-- the lines of a choose that never has outputs: one, which is a no
+only_line : (c : ToldChoose) → TellsNever asked_nothing c.branches →
+    AreAskedLines 2 [] asked_nothing c.branches (codes "x" ∷ []) (codes "choose 2: no outputs for any inputs\n") (answered one_no nothing_unmet)
+unfolding digits
+only_line c h = never h
+
+no_inputs_line : (c : ToldChoose) → TellsNoInputs asked_nothing c.branches →
+    AreAskedLines 2 [] asked_nothing c.branches (codes "x" ∷ []) (codes "choose 2: given holds for no inputs\n") (answered one_no nothing_unmet)
+unfolding digits
+no_inputs_line c h = no_inputs h
 
 -- ---- a strict check
 -- two noes on existence and one doubt; a no and two doubts on uniqueness

@@ -289,7 +289,7 @@ checking strictness = record { command = check strictness (codes "a"); files = c
 abbrev written : Streams
 written = after (codes "1\n2") (codes "xlines\n")
 
-check-no : AreSourceChecks (codes "source") (codes "lines\n") (answered one_no nothing_unmet) →
+check-no : AreSourceChecks (codes "a") (codes "source") (codes "lines\n") (answered one_no nothing_unmet) →
     Ends (checking Existing) before written (Err (fault.AnswersNo 1))
 check-no checks = (
   [],
@@ -300,7 +300,7 @@ check-no checks = (
 )
 
 -- what is undecided of uniqueness counts only where it is asked for
-check-done : AreSourceChecks (codes "source") (codes "lines\n") (answered nothing_unmet one_undecided) → Ends (checking Existing) before written (Ok tt)
+check-done : AreSourceChecks (codes "a") (codes "source") (codes "lines\n") (answered nothing_unmet one_undecided) → Ends (checking Existing) before written (Ok tt)
 check-done checks = (
   [],
   tt,
@@ -309,7 +309,7 @@ check-done checks = (
   (answered nothing_unmet one_undecided, checks, refl),
 )
 
-check-undecided : AreSourceChecks (codes "source") (codes "lines\n") (answered nothing_unmet one_undecided) →
+check-undecided : AreSourceChecks (codes "a") (codes "source") (codes "lines\n") (answered nothing_unmet one_undecided) →
     Ends (checking Unique) before written (Err (fault.AnswersUndecided 1))
 check-undecided checks = (
   [],

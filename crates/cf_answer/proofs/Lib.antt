@@ -1,6 +1,7 @@
 pub mod AgreeLaws
 pub mod AnswerLemmas
 pub mod AskedLemmas
+pub mod BesideLemmas
 mod BlameExamples
 mod BlockExamples
 pub mod BlockLemmas
@@ -12,6 +13,7 @@ mod CertificateExamples
 pub mod CertificateLemmas
 mod CheckExamples
 pub mod CheckLemmas
+pub mod CheckedLemmas
 mod ClaimExamples
 pub mod ClaimLemmas
 pub mod ClaimedLemmas
@@ -28,6 +30,7 @@ pub mod FaultLemmas
 pub mod FileLemmas
 mod FormExamples
 pub mod FormedLemmas
+pub mod FrontLaws
 pub mod HeadLemmas
 pub mod HoldingLemmas
 mod LateExamples

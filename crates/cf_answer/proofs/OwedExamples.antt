@@ -13,7 +13,6 @@ use Rattle.cf_lex.specs.Editions.{edition_of}
 use Rattle.cf_target.specs.Spelling.{target_tree}
 use Rattle.cf_program.specs.Checked.{TypedTree}
 use Rattle.cf_form.specs.Branches.{Branch}
-use Rattle.cf_form.specs.Told.{ToldChoose}
 use Rattle.cf_num.specs.Limit.{limit}
 use Rattle.cf_eval.specs.Replies.{IsReply, meaning_text, too_long as is_too_long, bad_input as is_bad_input, meaning}
 use Rattle.cf_late.specs.Texts.{late_text}
@@ -30,11 +29,11 @@ use Rattle.cf_answer.specs.Branches.{AreBranched}
 use Rattle.cf_answer.specs.Certificates.{AreProofs, AreVerified, verified_line}
 use Rattle.cf_answer.specs.Forms.{as_text, Form, form_of}
 use Rattle.cf_answer.specs.LateReplies.{AreRunsAllowed}
-use Rattle.cf_answer.specs.Owed.{by_target, by_late, comes_by, IsReplyBy, Replier, AllReplied, AreReplies, ArePicked, IsCompiledBy, OwesRun, compiled, late, IsPrinted, AllWritten, ArePres, AreChecks, AreSourceChecks, IsSum, sum_line, Owes, Judges}
+use Rattle.cf_answer.specs.Owed.{by_target, by_late, comes_by, IsReplyBy, Replier, AllReplied, AreReplies, ArePicked, IsCompiledBy, OwesRun, compiled, late, IsPrinted, AllWritten, ArePres, AreSourceChecks, IsSum, sum_line, Owes, Judges}
 use Rattle.cf_answer.specs.Passes.{applied}
 use Rattle.cf_answer.specs.Replies.{too_long, bad_input, comes}
 use Rattle.cf_answer.specs.ResultNames.{AreResultNames}
-use Rattle.cf_answer.specs.Sources.{Compiles, IsTypedSource, AreToldIn, AreToldOf, IsLateSource, IsTypedTarget}
+use Rattle.cf_answer.specs.Sources.{Compiles, IsTypedSource, AreToldIn, IsLateSource, IsTypedTarget}
 use Rattle.cf_answer.specs.Unmet.{judged}
 use Rattle.cf_answer.specs.declared.fault.Fault.{Fault}
 use Rattle.cf_answer.specs.declared.unmet.Answered.{Answered}
@@ -70,8 +69,7 @@ module _ (form : ReplyForm) (written : Form) (name other source steps : List ℕ
   of-pre = (λ h. h, λ h. h)
 
   of-check : Same (Owes (check strictness.Told name) (source ∷ []) given last ls text)
-      ((a : Answered) × ((told : List ToldChoose) × AreToldOf source told × (typed : TypedTree) × IsTypedSource source typed
-      × AreChecks (edition_of source) told typed text a))
+      ((a : Answered) × AreSourceChecks name source text a)
   of-check = (λ h. h, λ h. h)
 
   -- a strict check owes the same text
@@ -81,7 +79,7 @@ module _ (form : ReplyForm) (written : Form) (name other source steps : List ℕ
 
   -- and ends by what its lines answer; any other command is done
   judged-check : (answer : Result (Unit {0}) Fault) → Same (Judges (check strictness.Unique name) (source ∷ []) text answer)
-      ((a : Answered) × AreSourceChecks source text a × (answer ≡ judged strictness.Unique a))
+      ((a : Answered) × AreSourceChecks name source text a × (answer ≡ judged strictness.Unique a))
   judged-check answer = (λ h. h, λ h. h)
 
   judged-pre : (answer : Result (Unit {0}) Fault) → Same (Judges (pre name) (source ∷ []) text answer) (answer ≡ Ok tt)

@@ -5,7 +5,8 @@ use Rattle.cf_pass.specs.Passes.{Told}
 use Rattle.cf_target.specs.Spelling.{target_tree}
 use Rattle.cf_words.specs.Commands.{Command, compile, run, pre, check, exec, prove, emit, goals, verify, gen, help, version}
 use Rattle.cf_answer.specs.Forms.{form_of}
-use Rattle.cf_answer.specs.Owed.{Owes}
+use Rattle.cf_lex.specs.Editions.{edition_of}
+use Rattle.cf_answer.specs.Owed.{Owes, file_of}
 use Rattle.cf_answer.specs.Passes.{applied}
 use Rattle.cf_answer.specs.Refusals.{Refuses, IsAccepted}
 use Rattle.cf_answer.specs.Statuses.{fault_status}
@@ -41,7 +42,7 @@ owed_accepted (compile flags name) (file ∷ []) given passes ls text h =
 owed_accepted (run flags form name) (file ∷ []) given passes ls text h =
     λ f r. run_unrefused (not flags.plain) (form_of form h.0) file given passes ls text f h.2 r
 owed_accepted (pre name) (file ∷ []) given passes ls text h = λ f r. pres_unrefused file h.0 text f h.1 h.2 r
-owed_accepted (check strictness name) (file ∷ []) given passes ls text h = λ f r. checks_unrefused file h.1.0 h.1.2 text h.0 f h.1.3 h.1.4 r
+owed_accepted (check strictness name) (file ∷ []) given passes ls text h = λ f r. checks_unrefused (file_of (edition_of file) name h.1.program) file h.1.told h.1.typed h.1.checks h.0 f h.1.is h.1.lines r
 owed_accepted (exec form name) (file ∷ []) given passes ls text h = λ f r. typed_unrefused file (target_tree h.0) f h.1 r
 owed_accepted (prove name) (file ∷ []) given passes ls text h = λ f r. proofs_unrefused file h.0 text f h.1 h.2 r
 owed_accepted (emit e name) (file ∷ []) given passes ls text h = λ f r. emission_unrefused e.language file given passes h.0 h.1 f r

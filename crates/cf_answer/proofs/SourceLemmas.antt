@@ -22,6 +22,7 @@ use Rattle.cf_form.specs.Told.{ToldChoose}
 use Rattle.cf_match.specs.Matches.{MatchTree, all_matches}
 use Rattle.cf_answer.specs.Branches.{AreBranched, coming, in_branches}
 use Rattle.cf_answer.specs.Checks.{AreChecksBehind}
+use Rattle.cf_answer.specs.Fronts.{File}
 use Rattle.cf_answer.specs.declared.unmet.Answered.{Answered}
 use Rattle.cf_answer.specs.Limits.{of_source}
 use Rattle.cf_answer.specs.Owed.{AllWritten, IsPreOf, ArePres, AreChecks}
@@ -120,13 +121,13 @@ pub pres_unrefused : (text : List ℕ) (cs : List (ChooseTree × Branch)) (pres 
 pres_unrefused text cs pres f b owed h =
     written_unrefused (λ c. c.0) (λ c. IsPreOf c.0 c.1) (λ c t p. p.within) text b.typed cs pres f b.is (branched_chooses text cs b) owed h
 
-checks_within : (edition : Edition) (ms : List MatchTree) (told : List ToldChoose) (before : ℕ) (qs : List ChooseTree) (text : List ℕ) (a : Answered) →
-    AreChecksBehind edition ms told before qs text a → All IsWithin qs
-checks_within edition ms told before [] text a h = All-nil IsWithin
-checks_within edition ms told before (q ∷ qs) text a h =
-    All-cons IsWithin q qs h.6.within (checks_within edition ms told q.number qs h.1 h.4 h.7)
+checks_within : (file : File) (ms : List MatchTree) (told : List ToldChoose) (before : ℕ) (qs : List ChooseTree) (text : List ℕ) (a : Answered) →
+    AreChecksBehind file ms told before qs text a → All IsWithin qs
+checks_within file ms told before [] text a h = All-nil IsWithin
+checks_within file ms told before (q ∷ qs) text a h =
+    All-cons IsWithin q qs h.6.within (checks_within file ms told q.number qs h.1 h.4 h.7)
 
-pub checks_unrefused : (text : List ℕ) (told : List ToldChoose) (typed : TypedTree) (checks : List ℕ) (a : Answered) (f : Fault) → IsTypedSource text typed →
-    AreChecks (edition_of text) told typed checks a → IsRefusedSource text f → ⊥
-checks_unrefused text told typed checks a f s owed h =
-    within_unrefused text typed f s (checks_within (edition_of text) (all_matches typed.defs) told 0 (by_number (all_chooses typed.defs)) checks a owed) h
+pub checks_unrefused : (file : File) (text : List ℕ) (told : List ToldChoose) (typed : TypedTree) (checks : List ℕ) (a : Answered) (f : Fault) →
+    IsTypedSource text typed → AreChecks file told typed checks a → IsRefusedSource text f → ⊥
+checks_unrefused file text told typed checks a f s owed h =
+    within_unrefused text typed f s (checks_within file (all_matches typed.defs) told 0 (by_number (all_chooses typed.defs)) checks a owed) h

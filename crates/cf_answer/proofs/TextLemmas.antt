@@ -26,7 +26,8 @@ use Rattle.cf_build.specs.declared.fault.BuildFault.TheVariants as build
 use Rattle.cf_answer.specs.Limits.{TextKind, of_source, of_target}
 use Rattle.cf_answer.specs.Refusals.{fault_of, Causes, too_long, odd_byte, large_number, no_tree, bad_tree, IsBroken, IsBadProgram, unruly, refused, IsBadTarget, untyped, CausesOf, IsBrokenSource, IsRefusedSource, IsRefusedTarget}
 use Rattle.cf_answer.specs.Sources.{HasTokens, Spelled, SpellsProgram, IsTypedBy, IsTypedSource, IsTypedTree}
-use Rattle.cf_answer.specs.Steps.{IsVerdict, IsFormedProgram, IsFormedSource, IsMisspelled}
+use Rattle.cf_answer.specs.declared.source.CheckedSource.{CheckedSource}
+use Rattle.cf_answer.specs.Steps.{IsVerdict, IsCheckedProgram, IsCheckedSource, IsFormedProgram, IsFormedSource, IsMisspelled}
 use Rattle.cf_answer.specs.declared.fault.Fault.{Fault}
 use Rattle.cf_answer.specs.declared.fault.Fault.TheVariants as fault
 
@@ -109,6 +110,14 @@ pub read_verdict : (edition : Edition) (text : List ℕ) (program : List RawItem
 read_verdict edition text program (Ok x) is s v = (program, s, subst (λ e. IsTypedBy e Plain program (typed_tree x)) is v)
 read_verdict edition text program (Err f) is s (inl b) = inl (bad_tree program f s (subst (λ e. IsBroken e Plain program f) is b))
 read_verdict edition text program (Err f) is s (inr memory) = inr memory
+
+-- the same of edition 3, as a source is checked
+pub checked_verdict : (name text : List ℕ) (program : List RawItemTree) (r : Result CheckedSource Fault) → edition_of text ≡ Three →
+    SpellsProgram text program → IsVerdict (IsCheckedProgram name program) (IsBroken Three Plain program) r →
+    IsVerdict (IsCheckedSource name text) (IsBrokenSource text) r
+checked_verdict name text program (Ok x) is s v = (program, s, v)
+checked_verdict name text program (Err f) is s (inl b) = inl (bad_tree program f s (subst (λ e. IsBroken e Plain program f) (sym is) b))
+checked_verdict name text program (Err f) is s (inr memory) = inr memory
 
 -- the same of edition 3, with what is told of its chooses
 pub formed_verdict : (text : List ℕ) (program : List RawItemTree) (r : Result Formed Fault) → edition_of text ≡ Three → SpellsProgram text program →

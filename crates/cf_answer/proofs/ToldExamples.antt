@@ -2,7 +2,6 @@
 use Rattle.std.proofs.Common.{◌≡◌, refl, pos, negsuc, true, false, Some, None, [], ◌∷◌, Vec, Global, codes}
 use Rattle.std.specs.Fmt.{digits}
 use Rattle.cf_tree.specs.declared.base.Base.TheVariants.{Int, Bool as Truth, Set}
-use Rattle.cf_tree.specs.declared.base.Edition.TheVariants.{Three}
 use Rattle.cf_tree.specs.declared.base.Order.TheVariants.{Eq, Ge}
 use Rattle.cf_tree.specs.RelTree.{RelTree, term_lit, term_var, rel_false, rel_compare, rel_or, rel_not}
 use Rattle.cf_tree.specs.Values.{number, truth, elements}
@@ -13,7 +12,9 @@ use Rattle.cf_form.specs.Told.{ToldBranch, ToldChoose}
 use Rattle.cf_warn.specs.declared.answer.Doubt.TheVariants.{Overflow}
 use Rattle.cf_warn.specs.declared.answer.ExistenceAnswer.TheVariants as existence
 use Rattle.cf_warn.specs.declared.answer.UniquenessAnswer.TheVariants as uniqueness
-use Rattle.cf_answer.specs.Checks.{AreLinesBy, told_existence_line, told_uniqueness_line}
+use Rattle.cf_answer.specs.Checks.{AreLinesBy, existence_text, told_names, uniqueness_text}
+use Rattle.cf_answer.specs.Fronts.{File}
+use Rattle.cf_answer.specs.Texts.{numbered_line}
 use Rattle.cf_answer.specs.ToldChecks.{Asked, ComeTo, IsBranchExistence, existence_question, named_levels, named_sample, shown_values, first_existence, first_uniqueness, told_of, is_later_branch}
 use Rattle.cf_answer.specs.Unmet.{nothing_answered}
 
@@ -61,6 +62,11 @@ shown : shown_values (Truth ∷ Int ∷ Truth ∷ []) (number (pos 1) ∷ number
 shown = refl
 
 -- ---- branches in order
+-- the choose of one of its branches
+abbrev choose_four : ChooseTree
+choose_four =
+    record { number = 4; names = codes "p" ∷ codes "a" ∷ codes "b" ∷ []; scope = Truth ∷ Int ∷ Int ∷ []; outputs = Int ∷ Set ∷ []; relation = same }
+
 module _ (sample later first second : Vec RunValue Global) where
   first_sample : first_existence (existence.Missing sample) (existence.Missing later) ≡ existence.Missing sample
   first_sample = refl
@@ -84,17 +90,13 @@ module _ (sample later first second : Vec RunValue Global) where
 
   -- ---- lines
   line_of_four : sample.items ≡ ran.Truth false ∷ ran.Int (pos 0) ∷ ran.Int (pos 5) ∷ [] →
-      told_existence_line
-      (record { number = 4; names = codes "p" ∷ codes "a" ∷ codes "b" ∷ []; scope = Truth ∷ Int ∷ Int ∷ []; outputs = Int ∷ Set ∷ []; relation = same }) four
-      (existence.Missing sample) ≡ codes "choose 4: no outputs for p = false, a = 0, b = 5\n"
+      numbered_line 4 (existence_text (told_names choose_four four) (existence.Missing sample)) ≡ codes "choose 4: no outputs for p = false, a = 0, b = 5\n"
   unfolding digits
   line_of_four e = rw e refl
 
   two_of_four : sample.items ≡ ran.Truth true ∷ ran.Int (pos 0) ∷ ran.Int (pos 0) ∷ [] → first.items ≡ ran.Truth true ∷ [] →
       second.items ≡ ran.Truth false ∷ [] →
-      told_uniqueness_line
-      (record { number = 4; names = codes "p" ∷ codes "a" ∷ codes "b" ∷ []; scope = Truth ∷ Int ∷ Int ∷ []; outputs = Int ∷ Set ∷ []; relation = same }) four
-      (uniqueness.Two sample first second) ≡ codes "choose 4: two outputs for p = true, a = 0, b = 0: true and false\n"
+      numbered_line 4 (uniqueness_text (told_names choose_four four) (uniqueness.Two sample first second)) ≡ codes "choose 4: two outputs for p = true, a = 0, b = 0: true and false\n"
   unfolding digits
   two_of_four e f g = rw (e, f, g) refl
 
@@ -115,5 +117,5 @@ first_branch = refl
 no_branch : is_later_branch [] 4 4 ≡ false
 no_branch = refl
 
-no_lines : (q : ChooseTree) → AreLinesBy true Three [] (four ∷ []) q [] nothing_answered
-no_lines q = (refl, refl)
+no_lines : (file : File) (q : ChooseTree) → AreLinesBy true file [] (four ∷ []) q [] nothing_answered
+no_lines file q = (refl, refl)

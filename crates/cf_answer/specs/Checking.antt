@@ -1,7 +1,10 @@
 -- What the numbers of chooses are of, and what is added for each; for the contracts within the crate.
 use Rattle.std.specs.Prelude.{◌≡◌, ℕ, Option, Some, None, List, ◌++◌, length, map, flat_map, All, Contains}
 use Rattle.std.specs.List.Sorted.{IsNonDecreasingBy, IsPermutation}
+use Rattle.cf_advice.specs.SpotView.{spot_tree}
+use Rattle.cf_program.specs.Checked.{TypedTree}
 use Rattle.cf_tree.specs.declared.base.Edition.{Edition}
+use Rattle.cf_tree.specs.declared.base.Edition.TheVariants.{Three}
 use Rattle.cf_tree.specs.RelView.{rel_tree}
 use Rattle.cf_match.specs.Matches.{MatchTree, match_tree}
 use Rattle.cf_match.specs.declared.class.Class.{Class}
@@ -13,9 +16,10 @@ use Rattle.cf_choose.specs.declared.fault.ChooseFault.{ChooseFault}
 use Rattle.cf_choose.specs.declared.fault.ChooseFault.TheVariants as faults
 use Rattle.cf_choose.specs.declared.solved.SolvedParts.{SolvedParts}
 use Rattle.cf_decide.specs.Answers.{SaysExistence, SaysUniqueness}
-use Rattle.cf_form.specs.Told.{HoldsCondition, HoldConditions, ToldChoose}
+use Rattle.cf_form.specs.Told.{HoldsCondition, HoldConditions, ToldBranch, ToldChoose}
 use Rattle.cf_form.specs.ToldView.{told_choose, truth_at}
 use Rattle.cf_form.specs.declared.told.TruthAt.{TruthAt}
+use Rattle.cf_build.specs.Chooses.{limit_of}
 use Rattle.cf_build.specs.Solves.{IsSolved}
 use Rattle.cf_build.specs.declared.solves.SolvedChoose.{SolvedChoose}
 use Rattle.cf_warn.specs.Classes.{AreClasses}
@@ -26,16 +30,21 @@ use Rattle.cf_warn.specs.declared.answer.ExistenceAnswer.TheVariants as existenc
 use Rattle.cf_warn.specs.declared.answer.UniquenessAnswer.{UniquenessAnswer}
 use Rattle.cf_warn.specs.declared.answer.UniquenessAnswer.TheVariants as uniqueness
 use Rattle.cf_warn.specs.declared.coverage.Cover.{Cover}
-use Rattle.cf_answer.specs.Checks.{IsMatch, IsArm, IsOwn, AreLines, IsCheckBehind, asked_of, cover_line, told_existence_line, told_uniqueness_line, existence_text, names_at, uniqueness_text}
-use Rattle.cf_answer.specs.Tells.{TellsCover, TellsExistence, TellsUniqueness}
+use Rattle.cf_answer.specs.Checks.{IsMatch, IsArm, IsOwn, AreAskedLines, AreBehindArm, AreLines, AreLinesBy, AreUnboundedLines, IsCheckBehind, asked_of, cover_line, existence_text, names_at, told_names, tuples_line, uniqueness_text}
+use Rattle.cf_answer.specs.Fronts.{File, output_names}
+use Rattle.cf_answer.specs.Owed.{AreChecks}
+use Rattle.cf_answer.specs.Sources.{IsTypedSource}
+use Rattle.cf_answer.specs.Tells.{TellsCover, most_tuples}
 use Rattle.cf_answer.specs.Texts.{numbered_line}
-use Rattle.cf_answer.specs.ToldChecks.{Asked, named_sample}
-use Rattle.cf_answer.specs.Unmet.{answered, unmet_cover, unmet_existence, unmet_uniqueness}
+use Rattle.cf_answer.specs.ToldChecks.{Asked, is_later_branch, named_sample}
+use Rattle.cf_answer.specs.Unmet.{unmet_cover, unmet_existence, unmet_uniqueness}
 use Rattle.cf_answer.specs.declared.unmet.Answered.{Answered}
 use Rattle.cf_answer.specs.declared.unmet.Unmet.{Unmet}
 use Rattle.cf_answer.specs.declared.told_check.Asked.{Asked as DeclaredAsked}
 use Rattle.cf_answer.specs.declared.told_check.Telling.{Telling}
 use Rattle.cf_answer.specs.declared.told_check.Telling.TheVariants.{Nothing, Told}
+use Rattle.cf_answer.specs.declared.check.AnsweredText.{AnsweredText}
+use Rattle.cf_answer.specs.declared.source.CheckedSource.{CheckedSource}
 use Rattle.cf_answer.specs.declared.choose_origin.Origin.{Origin}
 use Rattle.cf_answer.specs.declared.choose_origin.Origin.TheVariants.{Choose, Arm, Match}
 
@@ -68,21 +77,54 @@ abbrev pub AddsCover : Edition → ℕ → List Class → List ℕ → List ℕ 
 AddsCover edition n classes old new unmet = (c : Cover) × TellsCover edition classes c × (new ≡ old ++ cover_line n c) × (unmet ≡ unmet_cover c)
 
 -- the lines of a choose were added, with what they answer, where the conditions that are told are part of the relations
-abbrev pub AddsCheck : Edition → List MatchTree → List ToldChoose → SolvedChoose → List ℕ → List ℕ → Answered → Type 0
-AddsCheck edition matches told s old new a =
-    (q : ChooseTree) → IsSolved q s → HoldConditions told → (more : List ℕ) × (new ≡ old ++ more) × AreLines edition matches told q more a
+abbrev pub AddsCheck : File → List MatchTree → List ToldChoose → SolvedChoose → List ℕ → List ℕ → Answered → Type 0
+AddsCheck file matches told s old new a =
+    (q : ChooseTree) → IsSolved q s → HoldConditions told → (more : List ℕ) × (new ≡ old ++ more) × AreLines file matches told q more a
 
 -- the same of one behind a choose of number `before`
-abbrev pub AddsCheckBehind : Edition → List MatchTree → List ToldChoose → ℕ → SolvedChoose → List ℕ → List ℕ → Answered → Type 0
-AddsCheckBehind edition matches told before s old new a =
-    (q : ChooseTree) → IsSolved q s → HoldConditions told → (more : List ℕ) × (new ≡ old ++ more) × IsCheckBehind edition matches told before q more a
+abbrev pub AddsCheckBehind : File → List MatchTree → List ToldChoose → ℕ → SolvedChoose → List ℕ → List ℕ → Answered → Type 0
+AddsCheckBehind file matches told before s old new a =
+    (q : ChooseTree) → IsSolved q s → HoldConditions told → (more : List ℕ) × (new ≡ old ++ more) × (limit_of q ≡ None)
+    × AreLinesBy (is_later_branch told before q.number) file matches told q more a
 
--- the lines of a choose of which this is told were added
-abbrev pub AddsTold : SolvedChoose → ToldChoose → List ℕ → List ℕ → Answered → Type 0
-AddsTold s c old new a =
-    (q : ChooseTree) → IsSolved q s → All HoldsCondition c.branches →
-    (e : ExistenceAnswer) × (u : UniquenessAnswer) × TellsExistence (asked_of q c) c.branches e × TellsUniqueness (asked_of q c) c.branches u
-    × (new ≡ old ++ (told_existence_line q c e ++ told_uniqueness_line q c u)) × (a ≡ answered (unmet_existence e) (unmet_uniqueness u))
+-- what is written of them was added
+abbrev pub AddsWritten : File → List MatchTree → List ToldChoose → ℕ → SolvedChoose → List ℕ → List ℕ → Answered → Type 0
+AddsWritten file matches told before s old new a =
+    (q : ChooseTree) → IsSolved q s → HoldConditions told → (more : List ℕ) × (new ≡ old ++ more) × IsCheckBehind file matches told before q more a
+
+-- the lines beside the answers on choose number n were added
+abbrev pub AddsBeside : Asked → List ToldBranch → List (List ℕ) → ℕ → List ℕ → List ℕ → Type 0
+AddsBeside a bs names n old new =
+    (more : List ℕ) × AreUnboundedLines a bs n names more × (new ≡ old ++ (more ++ tuples_line n (most_tuples a bs)))
+
+-- the lines of a choose in these branches were added
+abbrev pub AddsAsked : SolvedChoose → Asked → List ToldBranch → List (List ℕ) → List ℕ → List ℕ → Answered → Type 0
+AddsAsked s a bs names old new ans =
+    All HoldsCondition bs → (more : List ℕ) × (new ≡ old ++ more)
+    × AreAskedLines s.choose.number (names_at (names_of s.choose.scope.now) a.levels) a bs names more ans
+
+-- the lines of a choose of which this is told, whose outputs have these names, were added
+abbrev pub AddsTold : SolvedChoose → ToldChoose → List (List ℕ) → List ℕ → List ℕ → Answered → Type 0
+AddsTold s c names old new a =
+    (q : ChooseTree) → IsSolved q s → All HoldsCondition c.branches → (more : List ℕ) × (new ≡ old ++ more)
+    × AreAskedLines q.number (told_names q c) (asked_of q c) c.branches names more a
+
+-- what stands behind the line of an arm was added
+abbrev pub AddsBesideArm : File → SolvedChoose → List ℕ → List ℕ → Type 0
+AddsBesideArm file s old new =
+    (q : ChooseTree) → IsSolved q s → (more : List ℕ) × AreBehindArm Three (output_names file q.number) q more × (new ≡ old ++ more)
+
+abbrev pub AddsBehindArm : File → SolvedChoose → List ℕ → List ℕ → Type 0
+AddsBehindArm file s old new =
+    (q : ChooseTree) → IsSolved q s → (more : List ℕ) × AreBehindArm file.edition (output_names file q.number) q more × (new ≡ old ++ more)
+
+-- the lines of the chooses and matches of a program of edition 3, of which this was read
+pub record AreProgramChecks (name text : List ℕ) (s : CheckedSource) (c : AnsweredText) : Type 0 where
+  pub typed : TypedTree
+  pub is : IsTypedSource text typed
+  pub lines :
+      AreChecks (record { edition = Three; name = name; spots = map spot_tree s.spots.items }) (map told_choose s.formed.chooses.items) typed c.text.items
+      c.answered
 
 -- ---- chooses that are told of
 abbrev pub asked_view : DeclaredAsked → Asked

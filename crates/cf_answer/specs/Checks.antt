@@ -1,16 +1,21 @@
 -- What `check` writes of the chooses of a program.
-use Rattle.std.specs.Prelude.{◌≡◌, ℕ, Bool, true, false, List, [], ◌∷◌, ◌++◌, length, map, get_or, codes, decimal, Some, None, Contains}
+use Rattle.std.specs.Prelude.{◌≡◌, ℕ, suc, ◌+◌, nat_lt, Bool, true, false, List, [], ◌∷◌, ◌++◌, length, map, flat_map, get_or, codes, decimal, Some, None, Contains, if◌then◌else◌}
 use Rattle.std.specs.List.{concat}
 use Rattle.std.specs.Fmt.{signed_decimal}
 use Rattle.cf_tree.specs.declared.base.Edition.{Edition}
+use Rattle.cf_tree.specs.declared.base.Edition.TheVariants.{Two, Three}
+use Rattle.cf_tree.specs.declared.raw.Param.{Param}
 use Rattle.cf_tree.specs.Values.{Value}
+use Rattle.cf_help.specs.Messages.{heading}
 use Rattle.cf_match.specs.Matches.{MatchTree}
+use Rattle.cf_match.specs.declared.class.Class.{Class}
 use Rattle.cf_tree.specs.ChooseTree.{ChooseTree}
 use Rattle.cf_build.specs.Chooses.{limit_of}
 use Rattle.cf_eval.specs.Seen.{plains}
 use Rattle.cf_eval.specs.Texts.{value_text, values_text}
-use Rattle.cf_form.specs.Told.{ToldChoose}
+use Rattle.cf_form.specs.Told.{ToldBranch, ToldChoose}
 use Rattle.cf_linear.specs.Reasons.{refusal_text}
+use Rattle.cf_warn.specs.Missing.{tuple_count}
 use Rattle.cf_warn.specs.Questions.{parameters}
 use Rattle.cf_warn.specs.Verdicts.{IsExistence, IsUniqueness}
 use Rattle.cf_warn.specs.declared.answer.Doubt.{Doubt}
@@ -21,10 +26,11 @@ use Rattle.cf_warn.specs.declared.answer.UniquenessAnswer.{UniquenessAnswer}
 use Rattle.cf_warn.specs.declared.answer.UniquenessAnswer.TheVariants as uniqueness
 use Rattle.cf_warn.specs.declared.coverage.Cover.{Cover}
 use Rattle.cf_warn.specs.declared.coverage.Cover.TheVariants as cover
-use Rattle.cf_answer.specs.Tells.{TellsExistence, TellsUniqueness, TellsArm, TellsCover}
+use Rattle.cf_answer.specs.Fronts.{File, output_names, written_in}
+use Rattle.cf_answer.specs.Tells.{TellsExistence, TellsUniqueness, TellsArm, TellsCover, TellsNoInputs, TellsNever, TellsUnbounded, TellsUnreached, arm_asked, arm_branch, most_tuples}
 use Rattle.cf_answer.specs.Texts.{numbered_line}
 use Rattle.cf_answer.specs.ToldChecks.{Asked, named_levels, told_of, is_later_branch}
-use Rattle.cf_answer.specs.Unmet.{answered, nothing_answered, nothing_unmet, unmet_cover, unmet_existence, unmet_uniqueness, with_answered}
+use Rattle.cf_answer.specs.Unmet.{answered, nothing_answered, nothing_unmet, one_no, unmet_cover, unmet_existence, unmet_uniqueness, with_answered}
 use Rattle.cf_answer.specs.declared.unmet.Answered.{Answered}
 
 -- ---- verdicts
@@ -82,15 +88,69 @@ uniqueness_line q u = numbered_line q.number (uniqueness_text (parameter_names q
 abbrev pub asked_of : ChooseTree → ToldChoose → Asked
 asked_of q c = record { scope = q.scope; outputs = q.outputs; shown = c.outputs; levels = named_levels (length q.scope) c }
 
-abbrev pub told_existence_line : ChooseTree → ToldChoose → ExistenceAnswer → List ℕ
-told_existence_line q c e = numbered_line q.number (existence_text (names_at q.names (named_levels (length q.scope) c)) e)
-
-abbrev pub told_uniqueness_line : ChooseTree → ToldChoose → UniquenessAnswer → List ℕ
-told_uniqueness_line q c u = numbered_line q.number (uniqueness_text (names_at q.names (named_levels (length q.scope) c)) u)
+-- the names of what samples of it name
+abbrev pub told_names : ChooseTree → ToldChoose → List (List ℕ)
+told_names q c = names_at q.names (named_levels (length q.scope) c)
 
 abbrev pub cover_line : ℕ → Cover → List ℕ
 cover_line n c = concat (codes "match " ∷ decimal n ∷ codes ": " ∷ cover_text c ∷ codes "\n" ∷ [])
 
+-- ---- lines beside the answers
+abbrev pub no_inputs_text : List ℕ
+no_inputs_text = codes "given holds for no inputs"
+
+abbrev pub never_text : List ℕ
+never_text = codes "no outputs for any inputs"
+
+-- an output of this name
+abbrev pub unbounded_line : ℕ → List ℕ → List ℕ
+unbounded_line n name = numbered_line n (concat (codes "nothing bounds output " ∷ name ∷ []))
+
+-- arm number k, counted from 0, is told by its number from 1 on
+abbrev pub unreached_line : ℕ → ℕ → List ℕ
+unreached_line n k = concat (codes "match " ∷ decimal n ∷ codes ": no number reaches arm " ∷ decimal (k + 1) ∷ codes "\n" ∷ [])
+
+-- of so many tuples it is told
+abbrev pub many_tuples : ℕ
+many_tuples = 10000
+
+abbrev pub tuples_line : ℕ → ℕ → List ℕ
+tuples_line n tuples =
+    if nat_lt many_tuples tuples then numbered_line n (concat (codes "a line may try " ∷ decimal tuples ∷ codes " tuples" ∷ [])) else []
+
+-- a line for some of these, of which the first has number k, and of each of those this is so
+abbrev pub AllSaid : {X : Type 0} → (ℕ → X → Type 0) → (ℕ → X → List ℕ) → ℕ → List X → List ℕ → Type 0
+AllSaid Is line k [] text = text ≡ []
+AllSaid Is line k (x ∷ xs) text =
+    (tells : Bool) × (tells ≡ true → Is k x) × (more : List ℕ) × (text ≡ (if tells then line k x else []) ++ more) × AllSaid Is line (suc k) xs more
+
+abbrev pub AreUnboundedLines : Asked → List ToldBranch → ℕ → List (List ℕ) → List ℕ → Type 0
+AreUnboundedLines a bs n names text = AllSaid (λ k name. TellsUnbounded a bs k) (λ k name. unbounded_line n name) 0 names text
+
+abbrev pub AreUnreachedLines : ℕ → List Class → List ℕ → Type 0
+AreUnreachedLines n classes text = AllSaid (TellsUnreached classes) (λ k c. unreached_line n k) 0 classes text
+
+-- The lines of choose number n in these branches, of which samples name variables of these names and whose outputs have these, with what they answer.
+pub data AreAskedLines (n : ℕ) (variables : List (List ℕ)) (a : Asked) (bs : List ToldBranch) (names : List (List ℕ)) : List ℕ → Answered → Type 0 where
+  no_inputs : TellsNoInputs a bs → AreAskedLines n variables a bs names (numbered_line n no_inputs_text) (answered one_no nothing_unmet)
+  never : TellsNever a bs → AreAskedLines n variables a bs names (numbered_line n never_text) (answered one_no nothing_unmet)
+  asked : (e : ExistenceAnswer) → (u : UniquenessAnswer) → TellsExistence a bs e → TellsUniqueness a bs u → (more : List ℕ) →
+      AreUnboundedLines a bs n names more →
+      AreAskedLines n variables a bs names
+      (numbered_line n (existence_text variables e) ++ numbered_line n (uniqueness_text variables u) ++ more ++ tuples_line n (most_tuples a bs))
+      (answered (unmet_existence e) (unmet_uniqueness u))
+
+-- what stands behind the line of an arm, and of a match
+abbrev pub AreBehindArm : Edition → List (List ℕ) → ChooseTree → List ℕ → Type 0
+AreBehindArm Two names q text = text ≡ []
+AreBehindArm Three names q text =
+    (more : List ℕ) × AreUnboundedLines (arm_asked q.scope q.outputs q.relation) (arm_branch q.relation ∷ []) q.number names more × (text ≡ more ++ tuples_line q.number (tuple_count q.scope q.outputs q.relation))
+
+abbrev pub AreBehindMatch : Edition → ℕ → List Class → List ℕ → Type 0
+AreBehindMatch Two n classes text = text ≡ []
+AreBehindMatch Three n classes text = AreUnreachedLines n classes text
+
+-- ---- all lines
 -- it is the number of a match
 abbrev pub IsMatch : MatchTree → ℕ → Type 0
 IsMatch m n = m.number ≡ n
@@ -105,32 +165,42 @@ IsOwn matches n = (m : MatchTree) → Contains matches m → (IsMatch m n → �
 
 -- The lines of a choose, with what they answer, by what its number is of: a choose of the source, of which nothing or this is told, an arm of one of these
 -- matches, or one of the matches. In language 2, where nothing is told, a verdict is that on its question; in edition 3 it has a meaning alone.
-pub data AreLines (edition : Edition) (matches : List MatchTree) (told : List ToldChoose) (q : ChooseTree) : List ℕ → Answered → Type 0 where
+pub data AreLines (file : File) (matches : List MatchTree) (told : List ToldChoose) (q : ChooseTree) : List ℕ → Answered → Type 0 where
   of_choose : IsOwn matches q.number → told_of told q.number ≡ None → (e : ExistenceAnswer) → (u : UniquenessAnswer) →
       IsExistence q.scope q.outputs q.relation e → IsUniqueness q.scope q.outputs (length q.outputs) q.relation u →
-      AreLines edition matches told q (existence_line q e ++ uniqueness_line q u) (answered (unmet_existence e) (unmet_uniqueness u))
-  of_told : IsOwn matches q.number → (c : ToldChoose) → told_of told q.number ≡ Some c → (e : ExistenceAnswer) → (u : UniquenessAnswer) →
-      TellsExistence (asked_of q c) c.branches e → TellsUniqueness (asked_of q c) c.branches u →
-      AreLines edition matches told q (told_existence_line q c e ++ told_uniqueness_line q c u) (answered (unmet_existence e) (unmet_uniqueness u))
-  of_arm : (m : MatchTree) → Contains matches m → IsArm m q.number → (u : UniquenessAnswer) → TellsArm edition q.scope q.outputs q.relation u →
-      AreLines edition matches told q (uniqueness_line q u) (answered nothing_unmet (unmet_uniqueness u))
-  of_match : (m : MatchTree) → Contains matches m → IsMatch m q.number → (c : Cover) → TellsCover edition m.classes c →
-      AreLines edition matches told q (cover_line q.number c) (answered (unmet_cover c) nothing_unmet)
+      AreLines file matches told q (existence_line q e ++ uniqueness_line q u) (answered (unmet_existence e) (unmet_uniqueness u))
+  of_told : IsOwn matches q.number → (c : ToldChoose) → told_of told q.number ≡ Some c → (text : List ℕ) → (a : Answered) →
+      AreAskedLines q.number (told_names q c) (asked_of q c) c.branches (output_names file q.number) text a → AreLines file matches told q text a
+  of_arm : (m : MatchTree) → Contains matches m → IsArm m q.number → (u : UniquenessAnswer) → TellsArm file.edition q.scope q.outputs q.relation u →
+      (more : List ℕ) → AreBehindArm file.edition (output_names file q.number) q more →
+      AreLines file matches told q (uniqueness_line q u ++ more) (answered nothing_unmet (unmet_uniqueness u))
+  of_match : (m : MatchTree) → Contains matches m → IsMatch m q.number → (c : Cover) → TellsCover file.edition m.classes c →
+      (more : List ℕ) → AreBehindMatch file.edition q.number m.classes more →
+      AreLines file matches told q (cover_line q.number c ++ more) (answered (unmet_cover c) nothing_unmet)
 
 -- later branches of a choose that is told of have no lines of their own
-abbrev pub AreLinesBy : Bool → Edition → List MatchTree → List ToldChoose → ChooseTree → List ℕ → Answered → Type 0
-AreLinesBy true edition matches told q text a = (text ≡ []) × (a ≡ nothing_answered)
-AreLinesBy false edition matches told q text a = AreLines edition matches told q text a
+abbrev pub AreLinesBy : Bool → File → List MatchTree → List ToldChoose → ChooseTree → List ℕ → Answered → Type 0
+AreLinesBy true file matches told q text a = (text ≡ []) × (a ≡ nothing_answered)
+AreLinesBy false file matches told q text a = AreLines file matches told q text a
 
--- a choose behind one of number `before` passes no limit, and these are its lines with what they answer
-pub record IsCheckBehind (edition : Edition) (matches : List MatchTree) (told : List ToldChoose) (before : ℕ) (q : ChooseTree) (text : List ℕ) (a : Answered)
+-- a choose behind one of number `before` passes no limit, and this is what is written of its lines, with what they answer
+pub record IsCheckBehind (file : File) (matches : List MatchTree) (told : List ToldChoose) (before : ℕ) (q : ChooseTree) (text : List ℕ) (a : Answered)
     : Type 0 where
   pub within : limit_of q ≡ None
-  pub lines : AreLinesBy (is_later_branch told before q.number) edition matches told q text a
+  pub own : List ℕ
+  pub lines : AreLinesBy (is_later_branch told before q.number) file matches told q own a
+  pub is : text ≡ written_in file q.number own
 
 -- the lines of chooses in order, behind one of number `before`, with what they answer together
-abbrev pub AreChecksBehind : Edition → List MatchTree → List ToldChoose → ℕ → List ChooseTree → List ℕ → Answered → Type 0
-AreChecksBehind edition matches told before [] text a = (text ≡ []) × (a ≡ nothing_answered)
-AreChecksBehind edition matches told before (q ∷ qs) text a =
+abbrev pub AreChecksBehind : File → List MatchTree → List ToldChoose → ℕ → List ChooseTree → List ℕ → Answered → Type 0
+AreChecksBehind file matches told before [] text a = (text ≡ []) × (a ≡ nothing_answered)
+AreChecksBehind file matches told before (q ∷ qs) text a =
     (first : List ℕ) × (more : List ℕ) × (text ≡ first ++ more) × (here : Answered) × (there : Answered) × (a ≡ with_answered here there)
-    × IsCheckBehind edition matches told before q first here × AreChecksBehind edition matches told q.number qs more there
+    × IsCheckBehind file matches told before q first here × AreChecksBehind file matches told q.number qs more there
+
+-- the lines on parameters that stand nowhere in their functions
+abbrev pub unused_line : List ℕ → Param → List ℕ
+unused_line name p = concat (heading name (Some p.place) ∷ codes "nothing uses parameter " ∷ p.name ∷ codes "\n" ∷ [])
+
+abbrev pub unused_lines : List ℕ → List Param → List ℕ
+unused_lines name ps = flat_map (unused_line name) ps

@@ -9,6 +9,8 @@ pub mod Commands
 pub mod Emitting
 pub mod Ends
 pub mod Forms
+pub mod Fronts
+pub mod FrontView
 pub mod LateReplies
 pub mod Limits
 pub mod Lines

@@ -2,16 +2,21 @@
 use Rattle.std.specs.Prelude.{◌≡◌, ℕ, ◌*◌, ℤ, pos, ◌+ℤ◌, Bool, true, not, List, [], ◌∷◌, ◌++◌, All, length, map, flat_map, None, codes, decimal, Result, Ok}
 use Rattle.std.specs.List.{concat, list_all}
 use Rattle.std.specs.Fmt.{signed_decimal}
+use Rattle.cf_advice.specs.Spots.{SpotTree, spots_of}
+use Rattle.cf_advice.specs.Unused.{all_unused}
 use Rattle.cf_gen.specs.Workload.{gen_source, gen_lines}
 use Rattle.cf_io.specs.Lines.{lines}
 use Rattle.cf_lex.specs.Editions.{edition_of}
 use Rattle.cf_tree.specs.declared.base.Edition.{Edition}
+use Rattle.cf_tree.specs.declared.base.Edition.TheVariants.{Two, Three}
+use Rattle.cf_tree.specs.DefView.{RawItemTree}
 use Rattle.cf_tree.specs.declared.base.Base.{Base}
 use Rattle.cf_tree.specs.declared.target.RawTarget.{RawTarget}
 use Rattle.cf_tree.specs.CodeView.{code_tree}
 use Rattle.cf_tree.specs.Values.{Value}
 use Rattle.cf_target.specs.Spelling.{target_tree}
-use Rattle.cf_program.specs.Checked.{TypedTree}
+use Rattle.cf_program.specs.Checked.{TypedTree, checked}
+use Rattle.cf_program.specs.declared.linearity.Linearity.TheVariants.{Plain}
 use Rattle.cf_form.specs.Told.{ToldChoose}
 use Rattle.cf_choose.specs.Precondition.{all_needs, IsPrecondition}
 use Rattle.cf_match.specs.Matches.{all_matches}
@@ -28,16 +33,17 @@ use Rattle.cf_answer.specs.About.{help_text, version_text}
 use Rattle.cf_form.specs.Branches.{Branch}
 use Rattle.cf_answer.specs.Branches.{AreBranched, valued}
 use Rattle.cf_answer.specs.Certificates.{AreProofs, AreVerified, verified_line}
-use Rattle.cf_answer.specs.Checks.{AreChecksBehind}
+use Rattle.cf_answer.specs.Checks.{AreChecksBehind, unused_lines}
 use Rattle.cf_answer.specs.Claims.{AreClaimed, choose_has_form, with_branches}
 use Rattle.cf_answer.specs.Emitting.{CompilesIn, IsEmitted}
+use Rattle.cf_answer.specs.Fronts.{File}
 use Rattle.cf_answer.specs.Forms.{Wording, as_text, Form, form_of, InForm}
 use Rattle.cf_answer.specs.LateReplies.{main_comes, AreRunsAllowed}
 use Rattle.cf_answer.specs.Passes.{AreCalled, applied}
 use Rattle.cf_answer.specs.Picked.{main_bases, IsSourceReply, adds}
 use Rattle.cf_answer.specs.Replies.{IsReplyIn}
 use Rattle.cf_answer.specs.ResultNames.{AreResultNames}
-use Rattle.cf_answer.specs.Sources.{Compiles, IsTypedSource, AreToldOf, IsLateSource, IsTypedTarget}
+use Rattle.cf_answer.specs.Sources.{Compiles, SpellsProgram, IsTypedSource, AreToldOf, IsLateSource, IsTypedTarget}
 use Rattle.cf_answer.specs.Unmet.{judged}
 use Rattle.cf_answer.specs.declared.fault.Fault.{Fault}
 use Rattle.cf_answer.specs.declared.unmet.Answered.{Answered}
@@ -129,13 +135,37 @@ pub record AreGoals (source : List ℕ) (cs : List (ChooseTree × Branch)) (text
   pub are : AreClaimed (with_branches 0 0 (map (λ c. c.0) cs)) more
 
 -- the lines of its chooses, of which this is told, and of its matches, in the order of their numbers, which are at least 1, and what they answer
-abbrev pub AreChecks : Edition → List ToldChoose → TypedTree → List ℕ → Answered → Type 0
-AreChecks edition told typed text a = AreChecksBehind edition (all_matches typed.defs) told 0 (by_number (all_chooses typed.defs)) text a
+abbrev pub AreChecks : File → List ToldChoose → TypedTree → List ℕ → Answered → Type 0
+AreChecks file told typed text a = AreChecksBehind file (all_matches typed.defs) told 0 (by_number (all_chooses typed.defs)) text a
 
--- the lines of the chooses and matches of a source
-abbrev pub AreSourceChecks : List ℕ → List ℕ → Answered → Type 0
-AreSourceChecks source text a =
-    (told : List ToldChoose) × AreToldOf source told × (typed : TypedTree) × IsTypedSource source typed × AreChecks (edition_of source) told typed text a
+-- what stands at the numbers of a program of edition 3; of language 2 it is not told
+abbrev pub told_spots : Edition → List RawItemTree → List SpotTree
+told_spots Two program = []
+told_spots Three program = spots_of program
+
+-- a source of an edition and of this program, in a file of this name
+abbrev pub file_of : Edition → List ℕ → List RawItemTree → File
+file_of edition name program = record { edition = edition; name = name; spots = told_spots edition program }
+
+-- in edition 3 the lines on parameters that stand nowhere in the functions of a program
+abbrev pub AreUnused : Edition → List ℕ → List RawItemTree → List ℕ → Type 0
+AreUnused Two name program text = text ≡ []
+AreUnused Three name program text =
+    (typed : TypedTree) × (checked Three Plain program ≡ Ok typed) × (text ≡ unused_lines name (all_unused typed.defs))
+
+-- the lines of the chooses and matches of a source in a file of this name, and behind them those on parameters
+pub record AreSourceChecks (name source text : List ℕ) (a : Answered) : Type 0 where
+  pub told : List ToldChoose
+  pub are_told : AreToldOf source told
+  pub typed : TypedTree
+  pub is : IsTypedSource source typed
+  pub program : List RawItemTree
+  pub spelled : SpellsProgram source program
+  pub checks : List ℕ
+  pub lines : AreChecks (file_of (edition_of source) name program) told typed checks a
+  pub more : List ℕ
+  pub unused : AreUnused (edition_of source) name program more
+  pub whole : text ≡ checks ++ more
 
 -- the sum of the replies of the target, which its program picks, where so many passes have rewritten it
 abbrev pub IsSum : RawTarget → TypedTree → ℕ → List (List ℕ) → ℤ → Type 0
@@ -155,7 +185,7 @@ Owes (compile flags name) (file ∷ []) given last ls text =
     (t : RawTarget) × IsCompiledBy (not flags.plain) file given last t × IsPrinted (edition_of file) t text
 Owes (run flags asked name) (file ∷ []) given last ls text = OwesNamed (not flags.plain) asked file given last ls text
 Owes (pre name) (file ∷ []) given last ls text = (cs : List (ChooseTree × Branch)) × AreBranched file cs × ArePres cs text
-Owes (check strictness name) (file ∷ []) given last ls text = (a : Answered) × AreSourceChecks file text a
+Owes (check strictness name) (file ∷ []) given last ls text = (a : Answered) × AreSourceChecks name file text a
 Owes (exec asked name) (file ∷ []) given last ls text =
     (t : RawTarget) × IsTypedTarget file (target_tree t) × AreReplies (record { by = by_target t; form = form_of asked [] }) ls text
 Owes (prove name) (file ∷ []) given last ls text = (cs : List (ChooseTree × Branch)) × AreBranched file cs × AreProofs (edition_of file) cs text
@@ -174,5 +204,5 @@ Owes command files given last ls text = ⊥
 
 -- What a command comes to on these files that has written this: `check` as strictly as it is asked, and any other is done.
 abbrev pub Judges : Command → List (List ℕ) → List ℕ → Result (Unit {0}) Fault → Type 0
-Judges (check strictness name) (file ∷ []) text answer = (a : Answered) × AreSourceChecks file text a × (answer ≡ judged strictness a)
+Judges (check strictness name) (file ∷ []) text answer = (a : Answered) × AreSourceChecks name file text a × (answer ≡ judged strictness a)
 Judges command files text answer = answer ≡ Ok tt

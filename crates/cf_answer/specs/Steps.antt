@@ -1,7 +1,9 @@
 -- How far an input was answered; for the contracts within the crate.
 use Rattle.std.specs.Prelude.{◌≡◌, ◌⊎◌, ◌≤◌, ◌<◌, ℕ, suc, ℤ, pos, ◌+ℤ◌, Bool, List}
-use Rattle.std.specs.Prelude.{[], ◌∷◌, ◌++◌, length, codes, if◌then◌else◌, Option, Some, None, Result, Ok, Err}
+use Rattle.std.specs.Prelude.{[], ◌∷◌, ◌++◌, length, map, codes, if◌then◌else◌, Option, Some, None, Result, Ok, Err}
 use Rattle.std.specs.Io.KnownBytes.{Appends, Consumes, IsAtEnd}
+use Rattle.cf_advice.specs.Spots.{spots_of}
+use Rattle.cf_advice.specs.SpotView.{spot_tree}
 use Rattle.cf_io.specs.Bytes.{TookPrefix}
 use Rattle.cf_io.specs.Cut.{CutterState, Stands, told, within}
 use Rattle.cf_io.specs.Limits.{line_limit, IsWithin, IsPast}
@@ -33,7 +35,7 @@ use Rattle.cf_late.specs.declared.outcome.LateOutcome.{LateOutcome as DeclaredLa
 use Rattle.cf_answer.specs.Ends.{answered_lines}
 use Rattle.cf_answer.specs.Outside.{AreTold, one_past}
 use Rattle.cf_answer.specs.Forms.{Form, form_of}
-use Rattle.cf_answer.specs.Owed.{Answerer, by_target, by_late, bases_by, comes_by, Replier, IsReplyOf, AreReplies, OwesRun}
+use Rattle.cf_answer.specs.Owed.{AreUnused, Answerer, by_target, by_late, bases_by, comes_by, Replier, IsReplyOf, AreReplies, OwesRun}
 use Rattle.cf_answer.specs.Picked.{outcome_number}
 use Rattle.cf_answer.specs.Refusals.{CausesOf}
 use Rattle.cf_answer.specs.ResultNames.{AreResultNames}
@@ -42,6 +44,7 @@ use Rattle.cf_answer.specs.declared.answerer.Answerer.{Answerer as DeclaredAnswe
 use Rattle.cf_answer.specs.declared.answerer.Answerer.TheVariants as answerer
 use Rattle.cf_answer.specs.declared.answerer.Replier.{Replier as DeclaredReplier}
 use Rattle.cf_answer.specs.declared.answerer.Runner.{Runner as DeclaredRunner}
+use Rattle.cf_answer.specs.declared.source.CheckedSource.{CheckedSource}
 use Rattle.cf_answer.specs.declared.fault.Fault.{Fault}
 use Rattle.cf_answer.specs.declared.fault.Fault.TheVariants as fault
 
@@ -61,6 +64,15 @@ IsFormedProgram program f = (source : TypedTree) × (checked Three Plain program
 
 abbrev pub IsFormedSource : List ℕ → FormedParts → Type 0
 IsFormedSource text f = (program : List RawItemTree) × SpellsProgram text program × IsFormedProgram program f
+
+-- a program of edition 3 in a file of this name, as it is read for its checks: its formed program, what stands at its numbers, and the lines on its parameters
+pub record IsCheckedProgram (name : List ℕ) (program : List RawItemTree) (s : CheckedSource) : Type 0 where
+  pub formed : IsFormedProgram program s.formed
+  pub spots : map spot_tree s.spots.items ≡ spots_of program
+  pub unused : AreUnused Three name program s.unused.items
+
+abbrev pub IsCheckedSource : List ℕ → List ℕ → CheckedSource → Type 0
+IsCheckedSource name text s = (program : List RawItemTree) × SpellsProgram text program × IsCheckedProgram name program s
 
 -- what answers lines, as the program keeps it with its form
 abbrev pub replier_of : DeclaredReplier → Replier

@@ -1,19 +1,22 @@
 -- What the answers of `check` on a choose of edition 3 say, by what its condition and its relation mean. Nothing is said of how an answer is found, and an
 -- undecided one promises nothing.
-use Rattle.std.specs.Prelude.{ℕ, ℤ, ◌≡◌, ◌≢◌, ◌<◌, ◌&&◌, ⊤, Bool, true, false, not, Option, Some, None, List, [], ◌∷◌, length, map, All, Any}
+use Rattle.std.specs.Prelude.{ℕ, ℤ, ◌≡◌, ◌≢◌, ◌<◌, ◌+◌, max, ◌&&◌, ⊤, Bool, true, false, not, Option, Some, None, List, [], ◌∷◌, length, map, take, slice_get, All, Any}
 use Rattle.cf_tree.specs.declared.base.Base.{Base}
+use Rattle.cf_tree.specs.declared.base.Base.TheVariants.{Int}
 use Rattle.cf_tree.specs.declared.base.Edition.{Edition}
 use Rattle.cf_tree.specs.declared.base.Edition.TheVariants.{Two, Three}
 use Rattle.cf_tree.specs.Occurs.{rel_holds}
 use Rattle.cf_tree.specs.Relation.{Sol, IsTyped}
 use Rattle.cf_tree.specs.RelTree.{RelTree}
 use Rattle.cf_tree.specs.Values.{Value, truth, value_at, same_value, HaveBases}
+use Rattle.cf_advice.specs.Bounds.{IsUnbounded}
 use Rattle.cf_eval.specs.Seen.{plains}
 use Rattle.cf_form.specs.Branches.{Branch, is_among, is_truth as is_truth_base, values_in}
 use Rattle.cf_form.specs.Told.{Allows, ToldBranch}
 use Rattle.cf_match.specs.declared.class.Class.{Class}
 use Rattle.cf_match.specs.Classes.{IsIn}
 use Rattle.cf_warn.specs.Covers.{IsCover}
+use Rattle.cf_warn.specs.Missing.{tuple_count}
 use Rattle.cf_warn.specs.Questions.{base_at, parameters}
 use Rattle.cf_warn.specs.Verdicts.{IsUniqueness}
 use Rattle.cf_warn.specs.declared.answer.ExistenceAnswer.{ExistenceAnswer}
@@ -107,6 +110,31 @@ TellsClasses classes (cover.Undecided d) = ⊤
 abbrev pub TellsCover : Edition → List Class → Cover → Type 0
 TellsCover Two classes c = IsCover classes c
 TellsCover Three classes c = TellsClasses classes c
+
+-- ---- beside the answers
+-- the condition holds for no inputs
+abbrev pub HasNoInputs : Asked → ToldBranch → Type 0
+HasNoInputs a b = (env : List Value) → IsInput a.scope b env → ⊥
+
+abbrev pub TellsNoInputs : Asked → List ToldBranch → Type 0
+TellsNoInputs a bs = All (HasNoInputs a) bs
+
+-- no inputs have outputs
+abbrev pub TellsNever : Asked → List ToldBranch → Type 0
+TellsNever a bs = All (λ b. (env : List Value) → IsInput a.scope b env → HasNone a b env) bs
+
+-- nothing bounds output number k, counted from 0, which is a number
+abbrev pub TellsUnbounded : Asked → List ToldBranch → ℕ → Type 0
+TellsUnbounded a bs k = (slice_get a.shown k ≡ Some Int) × All (λ b. IsUnbounded (length a.scope + k) b.relation) bs
+
+-- no number reaches arm number k, counted from 0, whose class this is: each of its numbers is in a class before it
+abbrev pub TellsUnreached : List Class → ℕ → Class → Type 0
+TellsUnreached classes k c = (z : ℤ) → IsIn c z → Any (λ d. IsIn d z) (take k classes)
+
+-- the most tuples that the arms of a branch have
+abbrev pub most_tuples : Asked → List ToldBranch → ℕ
+most_tuples a [] = 0
+most_tuples a (b ∷ bs) = max (tuple_count a.scope a.outputs b.relation) (most_tuples a bs)
 
 -- ---- within the program
 -- a condition speaks of variables in scope alone

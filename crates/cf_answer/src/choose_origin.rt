@@ -4,8 +4,9 @@ ghost use Rattle.std.specs.List.Sorted.{IsNonDecreasingBy, IsPermutation};
 ghost use Rattle.cf_match.specs.Matches.{match_tree};
 ghost use Rattle.cf_answer.specs.Checking.{AreMatches, IsOrigin};
 
+use crate::fronts::File;
 use cf_match::MatchInfo;
-use cf_tree::{Edition, NoMemory};
+use cf_tree::NoMemory;
 use std::alloc::Global;
 
 /// What the number of a choose is of.
@@ -18,10 +19,10 @@ pub enum Origin<'a> {
     Match(&'a MatchInfo),
 }
 
-/// The edition of a program, its matches in the order of their numbers, and the numbers of all their arms, rising.
+/// The source that is checked, its matches in the order of their numbers, and the numbers of all their arms, rising.
 #[derive(Clone, Copy)]
 pub struct Matches<'a> {
-    pub edition: Edition,
+    pub file: File<'a>,
     pub infos: &'a [MatchInfo],
     pub arms: &'a [u32],
 }

@@ -3,6 +3,7 @@
 
 mod about;
 mod answerer;
+mod beside;
 mod branches;
 mod check;
 mod choose_line;
@@ -13,6 +14,7 @@ mod emit;
 mod ended;
 mod exec;
 mod fault;
+mod fronts;
 mod generate;
 mod goals;
 mod input;

@@ -1,10 +1,11 @@
 //! From the text of a source to its program and its target.
-ghost use Rattle.std.specs.Prelude.{◌≡◌, ◌≤◌, ◌<◌, ◌-◌, ◌^◌, Bool, true, List, ℕ, length, map, IfOk, OnErr};
+ghost use Rattle.std.specs.Prelude.{◌≡◌, ◌≤◌, ◌<◌, ◌-◌, ◌^◌, Bool, true, List, ℕ, length, map, IfOk, Ok, OnErr};
 ghost use Rattle.cf_tree.specs.declared.base.Edition.TheVariants.{Two, Three};
 ghost use Rattle.cf_tree.specs.DefView.{program_tree};
 ghost use Rattle.cf_lex.specs.Editions.{edition_of as the_edition_of};
 ghost use Rattle.cf_pass.specs.Passes.{Told};
 ghost use Rattle.cf_program.specs.Source.{IsSpelledProgram};
+ghost use Rattle.cf_program.specs.Checked.{checked as checked_by};
 ghost use Rattle.cf_program.specs.Typed.{typed_tree};
 ghost use Rattle.cf_program.specs.declared.linearity.Linearity.TheVariants.{Plain, Late as LateRule};
 ghost use Rattle.cf_answer.specs.declared.fault.Fault.TheVariants.{Rule};
@@ -14,19 +15,21 @@ ghost use Rattle.cf_answer.specs.Refusals.{IsBroken, IsBrokenSource, IsRefusedSo
 ghost use Rattle.cf_answer.specs.Sources.{SpellsProgram, IsTypedBy, IsTypedSource, IsLoweredSource};
 ghost use Rattle.cf_form.specs.ToldView.{told_choose};
 ghost use Rattle.cf_answer.specs.Verifying.{edition_in, told_in, IsToldProgram};
-ghost use Rattle.cf_answer.specs.Steps.{IsVerdict, IsFormedProgram, IsFormedSource, IsMisspelled, IsNamedRunner, IsRunner, answerer_of};
+ghost use Rattle.cf_answer.specs.Steps.{IsVerdict, IsCheckedProgram, IsCheckedSource, IsFormedProgram, IsFormedSource, IsMisspelled, IsNamedRunner, IsRunner, answerer_of};
 
 use crate::answerer::{Answerer, Runner};
+use crate::beside::unused_lines;
 use crate::fault::Fault;
 use crate::names::result_names;
 use crate::text::lexed;
+use cf_advice::{Spot, spots_of, unused_params};
 use cf_build::build;
 use cf_form::{ChooseInfo, Formed, form, form_late};
 use cf_lex::edition_of;
 use cf_match::{Lowered, lower};
 use cf_parse::{ParseFault, program};
 use cf_pass::Pass;
-use cf_program::{Late, TypeFault, Typed};
+use cf_program::{Late, Source, TypeFault, Typed};
 use cf_tree::{Edition, NoMemory, Program, Target};
 use cf_type::{check, check_late, check_late_source, check_source};
 use std::alloc::Global;
@@ -102,6 +105,60 @@ fn formed_program(alloc: Global, program: &Program) -> Result<Formed, Fault>
         Err(TypeFault::NoMemory) => Err(Fault::NoMemory),
         Err(fault) => Err(Fault::Rule(fault)),
     }
+}
+
+/// A program of edition 3 with the forms of language 2, what stands at its numbers, and the lines of `check` on
+/// its parameters.
+#[derive(Drop)]
+pub struct CheckedSource {
+    pub formed: Formed,
+    pub spots: Vec<Spot>,
+    pub unused: Vec<u8>,
+}
+
+/// The program that a source text of edition 3 in a file of this name spells, as it is checked; or why the text
+/// is refused, whatever its chooses are.
+pub(crate) fn read_checked(alloc: Global, name: &[u8], text: &[u8]) -> Result<CheckedSource, Fault>
+    requires short { length text.now ≤ text_limit }
+    requires place { length text.now < 2 ^ 32 - 1 }
+    requires edition { the_edition_of text.now ≡ Three }
+    ensures { IsVerdict (IsCheckedSource name.now text.now) (IsBrokenSource text.now) result }
+{
+    let program = parsed(alloc, Edition::Three, text)?;
+    checked_program(alloc, name, &program)
+}
+
+// The same of a program.
+fn checked_program(alloc: Global, name: &[u8], program: &Program) -> Result<CheckedSource, Fault>
+    requires { IsSpelledProgram Three (program_tree program.now) }
+    ensures { IsVerdict (IsCheckedProgram name.now (program_tree program.now)) (IsBroken Three Plain (program_tree program.now)) result }
+{
+    match check_source(alloc, program) {
+        Ok(source) => with_advice(alloc, name, program, &source),
+        Err(TypeFault::NoMemory) => Err(Fault::NoMemory),
+        Err(fault) => Err(Fault::Rule(fault)),
+    }
+}
+
+// The same, where this is the program with its types.
+fn with_advice(
+    alloc: Global,
+    name: &[u8],
+    program: &Program,
+    source: &Source,
+) -> Result<CheckedSource, Fault>
+    requires { checked_by Three Plain (program_tree program.now) ≡ Ok (typed_tree source.now) }
+    ensures { IsVerdict (IsCheckedProgram name.now (program_tree program.now)) (IsBroken Three Plain (program_tree program.now)) result }
+{
+    let spots = spots_of(alloc, program)?;
+    let params = unused_params(alloc, source.defs())?;
+    let unused = unused_lines(alloc, name, &params)?;
+    let formed = form(alloc, source)?;
+    Ok(CheckedSource {
+        formed,
+        spots,
+        unused,
+    })
 }
 
 /// The program that a source text of edition 3 spells, with the forms of language 2, and what is told

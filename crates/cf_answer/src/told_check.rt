@@ -1,5 +1,5 @@
 //! What `check` asks of a choose that is told of, branch by branch.
-ghost use Rattle.std.specs.Prelude.{◌≡◌, ◌≢◌, ◌<◌, ◌||◌, ℕ, true, false, int_lt, pos, All, IfOk, Option, Some, None, length, map};
+ghost use Rattle.std.specs.Prelude.{◌≡◌, ◌≢◌, ◌<◌, ◌+◌, ◌||◌, ℕ, true, false, int_lt, pos, All, IfOk, Option, Some, None, [], length, map, max, slice_get};
 ghost use Rattle.cf_tree.specs.Occurs.{rel_holds as rel_holds_of};
 ghost use Rattle.cf_tree.specs.RelTree.{rel_not, rel_or};
 ghost use Rattle.cf_tree.specs.RelView.{rel_tree};
@@ -9,6 +9,10 @@ ghost use Rattle.cf_form.specs.Branches.{is_among as is_among_of, is_truth as is
 ghost use Rattle.cf_form.specs.Told.{HoldsCondition};
 ghost use Rattle.cf_form.specs.ToldView.{given_tree, told_branch, told_choose, truth_at};
 ghost use Rattle.cf_choose.specs.Solved.{IsOutput, SolveAnswer};
+ghost use Rattle.cf_advice.specs.Bounds.{IsUnbounded};
+ghost use Rattle.cf_read.specs.Reading.{NeverHolds};
+ghost use Rattle.cf_tree.specs.declared.base.Base.TheVariants.{Int};
+ghost use Rattle.cf_warn.specs.Missing.{tuple_count};
 ghost use Rattle.cf_warn.specs.Questions.{base_at as the_base_at};
 ghost use Rattle.cf_warn.specs.declared.answer.ExistenceAnswer.TheVariants.{Always};
 ghost use Rattle.cf_warn.specs.declared.answer.UniquenessAnswer.TheVariants.{Unique};
@@ -19,17 +23,19 @@ ghost use Rattle.cf_answer.specs.ToldChecks.{is_told as is_told_of, named_levels
 ghost use Rattle.cf_answer.specs.ToldChecks.{shown_value as shown_value_of, shown_values as shown_values_of, some_condition_holds as some_condition_holds_of};
 ghost use Rattle.cf_answer.specs.ToldChecks.{told_of as the_told_of, truth_or};
 ghost use Rattle.cf_answer.specs.Tells.{are_truths as are_truths_of, is_named as is_named_of, is_truth as is_truth_of};
+ghost use Rattle.cf_answer.specs.Tells.{HasNoInputs, TellsNever, TellsNoInputs, TellsUnbounded, most_tuples};
 ghost use Rattle.cf_answer.specs.Tells.{Fits, IsCondition, IsOfTwo, TellsExistence, TellsExistenceIn, TellsUniqueness, TellsUniquenessIn, same_values};
 ghost use Rattle.cf_answer.specs.Checking.{IsExistenceOf, IsRefusedExistence, IsRefusedUniqueness, IsUniquenessOf, asked_view, named_by, telling_view};
 
+use cf_advice::nothing_bounds;
 use cf_choose::{ChooseFault, Solved, solve};
-use cf_decide::{Effort, decide_existence, decide_uniqueness};
+use cf_decide::{Effort, decide_existence, decide_uniqueness, never_holds};
 use cf_eval::{Value, compare};
 use cf_form::{Branch, ChooseInfo, TruthAt};
 use cf_set::Set;
 use cf_setwit::push_if;
-use cf_tree::{Base, NoMemory, Order, Rel, rel_holds, to_u32, without};
-use cf_warn::{Doubt, ExistenceAnswer, UniquenessAnswer, is_over, parameters};
+use cf_tree::{Base, NoMemory, Order, Rel, add_u32, rel_holds, to_u32, without};
+use cf_warn::{Doubt, ExistenceAnswer, UniquenessAnswer, is_over, parameters, tuple_count};
 use std::alloc::Global;
 
 // What is asked of each branch: the bases of the scope, of all outputs, and of those that are given
@@ -589,6 +595,168 @@ fn are_same(first: &[Value], second: &[Value]) -> bool
         }
     }
     right.is_empty()
+}
+
+// ---- beside the answers
+/// Whether a search finds that the conditions hold for no inputs.
+///
+/// # Errors
+/// `NoMemory` where memory ran out.
+pub(crate) fn have_no_inputs(
+    alloc: Global,
+    asked: &Asked<'_>,
+    branches: &[Branch],
+) -> Result<bool, NoMemory>
+    ensures { IfOk result (λ b. b ≡ true → TellsNoInputs (asked_view asked.now) (map told_branch branches.now)) }
+{
+    let mut rest = branches;
+    while let Some((branch, more)) = rest.split_first() {
+        let never = has_no_inputs(alloc, asked, branch)?;
+        if !never {
+            return Ok(false);
+        }
+        rest = more;
+    }
+    Ok(true)
+}
+
+fn has_no_inputs(alloc: Global, asked: &Asked<'_>, branch: &Branch) -> Result<bool, NoMemory>
+    ensures { IfOk result (λ b. b ≡ true → HasNoInputs (asked_view asked.now) (told_branch branch.now)) }
+{
+    match &branch.given {
+        None => Ok(false),
+        Some(condition) => fails_always(alloc, asked.scope, condition),
+    }
+}
+
+// Whether a search finds that the condition never holds.
+fn fails_always(alloc: Global, scope: &[Base], condition: &Rel) -> Result<bool, NoMemory>
+    ensures { IfOk result (λ b. b ≡ true → NeverHolds [] scope.now (rel_tree condition.now)) }
+{
+    if !is_over(scope, condition) {
+        return Ok(false);
+    }
+    never_holds(alloc, &[], scope, condition)
+}
+
+/// Whether a search finds that no inputs for which the conditions hold have outputs.
+///
+/// # Errors
+/// `NoMemory` where memory ran out.
+pub(crate) fn have_no_outputs(
+    alloc: Global,
+    asked: &Asked<'_>,
+    branches: &[Branch],
+) -> Result<bool, NoMemory>
+    ensures { IfOk result (λ b. b ≡ true → TellsNever (asked_view asked.now) (map told_branch branches.now)) }
+{
+    let mut rest = branches;
+    while let Some((branch, more)) = rest.split_first() {
+        let never = has_no_outputs(alloc, asked, &branch.relation)?;
+        if !never {
+            return Ok(false);
+        }
+        rest = more;
+    }
+    Ok(true)
+}
+
+fn has_no_outputs(alloc: Global, asked: &Asked<'_>, rel: &Rel) -> Result<bool, NoMemory>
+    ensures { IfOk result (λ b. b ≡ true → NeverHolds asked.now.scope.now asked.now.outputs.now (rel_tree rel.now)) }
+{
+    let mut bases = Vec::from_slice(alloc, asked.scope)?;
+    bases.extend_from_slice(asked.outputs)?;
+    if !is_over(&bases, rel) {
+        return Ok(false);
+    }
+    never_holds(alloc, asked.scope, asked.outputs, rel)
+}
+
+/// Whether an output that is given out, counted from 0, is a number, and the relations hold with any number there: no
+/// where that is not found.
+pub(crate) fn is_unbounded(asked: &Asked<'_>, branches: &[Branch], output: u32) -> bool
+    ensures { result ≡ true → TellsUnbounded (asked_view asked.now) (map told_branch branches.now) output }
+{
+    is_number(asked.shown, output) && are_unbounded(branches, asked.scope.len(), output)
+}
+
+fn is_number(shown: &[Base], output: u32) -> bool
+    ensures { result ≡ true → slice_get shown.now output ≡ Some Int }
+{
+    match shown.get(output as usize) {
+        Some(Base::Int) => true,
+        _ => false,
+    }
+}
+
+// Whether the relations of branches behind so many variables of the scope hold with any number at the output.
+fn are_unbounded(branches: &[Branch], scope: usize, output: u32) -> bool
+    ensures { result ≡ true → All (λ b. IsUnbounded (scope + output) b.relation) (map told_branch branches.now) }
+{
+    match level_of(scope, output) {
+        Ok(level) => are_unbounded_at(branches, level),
+        Err(_) => false,
+    }
+}
+
+// The level of an output behind so many variables of the scope.
+fn level_of(scope: usize, output: u32) -> Result<u32, NoMemory>
+    ensures { IfOk result (λ n. n ≡ scope + output) }
+{
+    let first = to_u32(scope)?;
+    add_u32(first, output)
+}
+
+fn are_unbounded_at(branches: &[Branch], level: u32) -> bool
+    ensures { result ≡ true → All (λ b. IsUnbounded level b.relation) (map told_branch branches.now) }
+{
+    let mut rest = branches;
+    while let Some((branch, more)) = rest.split_first() {
+        if !nothing_bounds(&branch.relation, level) {
+            return false;
+        }
+        rest = more;
+    }
+    true
+}
+
+/// The most search tuples that the arms of a branch have.
+///
+/// # Errors
+/// `NoMemory` where memory ran out, or a number does not fit in 64 bits.
+#[tactic(auto, using(crate::proofs::BesideLemmas::most_more))]
+pub(crate) fn told_tuples(
+    alloc: Global,
+    asked: &Asked<'_>,
+    branches: &[Branch],
+) -> Result<u64, NoMemory>
+    requires { All IsOutput asked.now.outputs.now }
+    ensures { IfOk result (λ n. n ≡ most_tuples (asked_view asked.now) (map told_branch branches.now)) }
+{
+    let mut most: u64 = 0;
+    let mut rest = branches;
+    while let Some((branch, more)) = rest.split_first() {
+        most = greater(most, branch_tuples(alloc, asked, &branch.relation)?);
+        rest = more;
+    }
+    Ok(most)
+}
+
+fn greater(a: u64, b: u64) -> u64
+    ensures { result ≡ max a b }
+{
+    if a < b { b } else { a }
+}
+
+// How many the arms of a relation have. One that passes a limit is want of memory; each that is told was solved.
+fn branch_tuples(alloc: Global, asked: &Asked<'_>, rel: &Rel) -> Result<u64, NoMemory>
+    requires { All IsOutput asked.now.outputs.now }
+    ensures { IfOk result (λ n. n ≡ tuple_count asked.now.scope.now asked.now.outputs.now (rel_tree rel.now)) }
+{
+    match solved_over(alloc, asked, rel) {
+        Ok(solved) => tuple_count(&solved),
+        Err(_) => Err(NoMemory),
+    }
 }
 
 // ---- all branches

@@ -1,6 +1,6 @@
 //! Which answers of `check` are not yes, and how a strict one ends.
 ghost use Rattle.std.specs.Prelude.{◌≡◌, IfOk};
-ghost use Rattle.cf_answer.specs.Unmet.{end_of as the_end_of, nothing_answered as the_nothing_answered, nothing_unmet as the_nothing_unmet, one_no as the_one_no};
+ghost use Rattle.cf_answer.specs.Unmet.{answered, end_of as the_end_of, nothing_answered as the_nothing_answered, nothing_unmet as the_nothing_unmet, one_no as the_one_no};
 ghost use Rattle.cf_answer.specs.Unmet.{one_undecided as the_one_undecided, unmet_cover as the_unmet_cover, unmet_existence as the_unmet_existence};
 ghost use Rattle.cf_answer.specs.Unmet.{unmet_for as the_unmet_for, unmet_uniqueness as the_unmet_uniqueness, with_answered as the_with_answered};
 ghost use Rattle.cf_answer.specs.Unmet.{with_unmet as the_with_unmet};
@@ -84,6 +84,16 @@ pub fn unmet_cover(answer: &Cover) -> Unmet
         Cover::All => nothing_unmet(),
         Cover::Misses(_) => one_no(),
         Cover::Undecided(_) => one_undecided(),
+    }
+}
+
+/// What a line adds that says of all inputs that there are no outputs.
+pub fn none_answered() -> Answered
+    ensures { result ≡ answered the_one_no the_nothing_unmet }
+{
+    Answered {
+        existence: one_no(),
+        uniqueness: nothing_unmet(),
     }
 }
 

@@ -1,5 +1,5 @@
 -- Whether each number is in one of some classes.
-use Rattle.std.specs.Prelude.{ℕ, ℤ, pos, ◌<◌, List, Any}
+use Rattle.std.specs.Prelude.{ℕ, ℤ, pos, ◌<◌, ◌+ℤ◌, ◌*ℤ◌, List, Any}
 use Rattle.cf_match.specs.declared.class.Class.{Class}
 use Rattle.cf_match.specs.declared.class.Class.TheVariants.{Residue}
 use Rattle.cf_match.specs.Classes.{IsIn}
@@ -35,3 +35,7 @@ pub record HasAll (class : Class) : Type 0 where
 -- of the numbers below the period, those that are in the class have all numbers of their residue in one of the classes
 pub record HoldResidues (classes : List Class) (class : Class) (period : ℕ) : Type 0 where
   pub held : (n : ℕ) → n < period → IsIn class (pos n) → AreHeld classes (Residue (pos period) (pos n))
+
+-- the residues r, r + g and so on, so many of them modulo that many times g, have all their numbers in one of the classes
+pub record HoldSteps (classes : List Class) (g r : ℤ) (steps : ℕ) : Type 0 where
+  pub held : (i : ℕ) → i < steps → AreHeld classes (Residue (g *ℤ pos steps) (r +ℤ g *ℤ pos i))

@@ -5,11 +5,13 @@
 
 mod effort;
 mod existence;
+mod never;
 mod samples;
 mod searching;
 mod uniqueness;
 
 pub use crate::effort::Effort;
 pub use crate::existence::decide_existence;
+pub use crate::never::never_holds;
 pub use crate::searching::MOST_VARIABLES;
 pub use crate::uniqueness::decide_uniqueness;

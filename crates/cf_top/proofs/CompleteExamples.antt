@@ -135,19 +135,19 @@ module _ (accepted : IsAccepted runs one_file) where
 
 -- ---- a strict check
 -- it has the status of what its lines answer
-strict-no : (text : List ℕ) → AreSourceChecks (codes "1") text (answered one_no one_undecided) → IsJudged (strict Existing) one_file AnswersNo
+strict-no : (text : List ℕ) → AreSourceChecks (codes "a") (codes "1") text (answered one_no one_undecided) → IsJudged (strict Existing) one_file AnswersNo
 strict-no text checks = (text, Err (fault.AnswersNo 1), (answered one_no one_undecided, checks, refl), refl)
 
 -- of uniqueness it is asked by `--unique` alone
-strict-not_asked : (text : List ℕ) → AreSourceChecks (codes "1") text (answered nothing_unmet one_undecided) → IsJudged (strict Existing) one_file Done
+strict-not_asked : (text : List ℕ) → AreSourceChecks (codes "a") (codes "1") text (answered nothing_unmet one_undecided) → IsJudged (strict Existing) one_file Done
 strict-not_asked text checks = (text, Ok tt, (answered nothing_unmet one_undecided, checks, refl), refl)
 
-strict-undecided : (text : List ℕ) → AreSourceChecks (codes "1") text (answered nothing_unmet one_undecided) →
+strict-undecided : (text : List ℕ) → AreSourceChecks (codes "a") (codes "1") text (answered nothing_unmet one_undecided) →
     IsJudged (strict Unique) one_file AnswersUndecided
 strict-undecided text checks = (text, Err (fault.AnswersUndecided 1), (answered nothing_unmet one_undecided, checks, refl), refl)
 
 -- without the flags it is done
-check-done : (text : List ℕ) → AreSourceChecks (codes "1") text (answered one_no one_no) → IsJudged (strict Told) one_file Done
+check-done : (text : List ℕ) → AreSourceChecks (codes "a") (codes "1") text (answered one_no one_no) → IsJudged (strict Told) one_file Done
 check-done text checks = (text, Ok tt, (answered one_no one_no, checks, refl), refl)
 
 -- no other command has these statuses

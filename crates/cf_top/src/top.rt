@@ -208,7 +208,9 @@ fn answer_text<I: Source, O: Sink>(
         CommandKind::Compile => write_target(alloc, flags, text, out, passes),
         CommandKind::Run => run_source(alloc, flags, command.form, text, input, out, passes),
         CommandKind::Pre => write_preconditions(alloc, text, out),
-        CommandKind::Check(strictness) => write_checks(alloc, strictness, text, out),
+        CommandKind::Check(strictness) => {
+            write_checks(alloc, strictness, command.file.as_bytes(), text, out)
+        },
         CommandKind::Exec => run_target(alloc, command.form, text, input, out),
         CommandKind::Prove => write_blocks(alloc, text, out),
         CommandKind::Emit(emitting) => write_emitted(alloc, &emitting, text, out, passes),

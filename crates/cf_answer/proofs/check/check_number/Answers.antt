@@ -7,7 +7,7 @@ use Rattle.cf_answer.proofs.check.check_number.Goals as goal
 pub returns-in-Choose : goal.returns-in-Choose
 returns-in-Choose c =
     let own = rw c.in-Choose.is at c.origin_of.ensures in
-    IfOk-weaker c.check_own.result _ _ (λ a h. h c.args.matches.now.edition (map match_tree c.args.matches.now.infos.now) own) c.check_own.ensures
+    IfOk-weaker c.check_own.result _ _ (λ a h. h (map match_tree c.args.matches.now.infos.now) own) c.check_own.ensures
 
 pub returns-in-Arm : goal.returns-in-Arm
 returns-in-Arm c = IfOk-weaker c.check_arm.result _ _ (λ a h. h (map told_choose c.args.told.now)) c.check_arm.ensures

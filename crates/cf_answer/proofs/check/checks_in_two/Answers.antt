@@ -1,9 +1,8 @@
-use Rattle.std.proofs.Common.{[], refl, subst, sym, All}
+use Rattle.std.proofs.Common.{All}
 use Rattle.std.proofs.lemmas.List.Elements.{All-nil}
 use Rattle.std.proofs.lemmas.Result.{err_from_is_err_and}
-use Rattle.cf_answer.specs.Owed.{AreChecks}
-use Rattle.cf_answer.specs.Sources.{AreToldIn}
 use Rattle.cf_form.specs.Told.{HoldsCondition}
+use Rattle.cf_answer.proofs.CheckedLemmas.{checks_of_two}
 use Rattle.cf_answer.proofs.TextLemmas.{broken_refused}
 use Rattle.cf_answer.proofs.check.checks_in_two.Goals as goal
 
@@ -21,11 +20,5 @@ returns-in_err-checks c =
 
 pub returns : goal.returns
 returns c =
-    let s = c.in_ok-lowered.ensures in (
-      [],
-      (s.is.0, s.is.1, subst (λ e. AreToldIn e s.is.0 []) (sym c.requires.edition) refl),
-      s.typed,
-      s.is,
-      subst (λ e. AreChecks e [] s.typed c.in_ok-checks.checks.text.items c.in_ok-checks.checks.answered) (sym c.requires.edition)
-          (c.in_ok-checks.ensures c.args.text.now s (All-nil (λ d. All HoldsCondition d.branches))),
-    )
+    checks_of_two c.args.name.now c.args.text.now c.in_ok-lowered.lowered c.in_ok-checks.checks.text.items c.in_ok-checks.checks.answered c.requires.edition
+    c.in_ok-lowered.ensures (c.in_ok-checks.ensures c.args.text.now c.in_ok-lowered.ensures (All-nil (λ d. All HoldsCondition d.branches)))

@@ -6,19 +6,19 @@ use Rattle.cf_answer.proofs.check.write_checks.Goals as goal
 pub returns-in_err-checks-clause-answers : goal.returns-in_err-checks-clause-answers
 returns-in_err-checks-clause-answers g c =
     let p = err_from_is_err_and c.from_residual.result c.from_residual.ensures.1 in
-    λ file given input. rw (p.1, p.2) (stopped_answers _ given given _ _ _ refl c.in_err-checks.ensures)
+    λ given input. rw (p.1, p.2) (stopped_answers _ given given _ _ _ refl c.in_err-checks.ensures)
 
 pub returns-in_err-unmet-clause-answers : goal.returns-in_err-unmet-clause-answers
 returns-in_err-unmet-clause-answers g c =
     let p = err_from_is_err_and c.from_residual-in_err-unmet.result c.from_residual-in_err-unmet.ensures.1 in
-    λ file given input. rw (p.1, p.2) (stopped_answers _ given given _ _ _ refl (inr refl))
+    λ given input. rw (p.1, p.2) (stopped_answers _ given given _ _ _ refl (inr refl))
 
 pub returns-in_err-write_text-clause-answers : goal.returns-in_err-write_text-clause-answers
 returns-in_err-write_text-clause-answers g c =
     let p = err_from_is_err_and c.from_residual-in_err-write_text.result c.from_residual-in_err-write_text.ensures.1 in
     let part = c.in_err-write_text.ensures in
-    λ file given input. rw (p.1, p.2)
-    (part_checked c.args.strictness file given c.args.text.now c.in_ok-checks.checks.text.items c.in_ok-checks.checks.answered input _ _ _
+    λ given input. rw (p.1, p.2)
+    (part_checked c.args.strictness c.args.name.now given c.args.text.now c.in_ok-checks.checks.text.items c.in_ok-checks.checks.answered input _ _ _
     c.in_ok-checks.ensures (rw c.deref.ensures.value at part.prefix) part.fault part.count)
 
 pub returns-in_err-write_text-clause-unwritten : goal.returns-in_err-write_text-clause-unwritten
@@ -28,8 +28,8 @@ returns-in_err-write_text-clause-unwritten g c =
 
 pub returns-clause-answers : goal.returns-clause-answers
 returns-clause-answers g c =
-    λ file given input. rw (c.end_of.ensures, c.in_ok-unmet.ensures)
-    (ended_answers c.args.strictness file given c.args.text.now c.in_ok-checks.checks.text.items c.in_ok-checks.checks.answered input _ _
+    λ given input. rw (c.end_of.ensures, c.in_ok-unmet.ensures)
+    (ended_answers c.args.strictness c.args.name.now given c.args.text.now c.in_ok-checks.checks.text.items c.in_ok-checks.checks.answered input _ _
     c.in_ok-checks.ensures (rw c.deref.ensures.value at c.in_ok-write_text.ensures.all) (c.in_ok-write_text.ensures.count.same (λ e. cc e)))
 
 pub returns-clause-unwritten : goal.returns-clause-unwritten

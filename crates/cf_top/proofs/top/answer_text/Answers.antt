@@ -12,7 +12,7 @@ returns-in-Pre-clause-answers g c =
 
 pub returns-in-Check-clause-answers : goal.returns-in-Check-clause-answers
 returns-in-Check-clause-answers g c =
-    rw c.in-Check.is (c.write_checks.ensures.answers c.args.command.now.file.now _ (g.I.Source.seen c.args.input.now))
+    rw c.in-Check.is (rw c.as_bytes.ensures.value at c.write_checks.ensures.answers _ (g.I.Source.seen c.args.input.now))
 
 pub returns-in-Exec-clause-answers : goal.returns-in-Exec-clause-answers
 returns-in-Exec-clause-answers g c = rw c.in-Exec.is (c.run_target.ensures.answers c.args.command.now.file.now _)

@@ -1,0 +1,5 @@
+pub mod Bounds
+pub mod Factors
+pub mod Unused
+pub mod Spots
+pub mod SpotView

@@ -1,0 +1,19 @@
+use Rattle.std.proofs.Common.{◌≡◌, ◌∷◌, [], rules}
+use Rattle.std.proofs.lemmas.List.{nil_from_length}
+use Rattle.cf_form.specs.ToldView.{told_branch}
+use Rattle.cf_answer.specs.Checking.{asked_view}
+use Rattle.cf_answer.proofs.BesideLemmas.{has_no_outputs, never_in, all_end, all_more}
+use Rattle.cf_answer.proofs.told_check.have_no_outputs.Goals as goal
+
+pub loop-branch-preserved : goal.loop-branch-preserved
+loop-branch-preserved c =
+    let asked = asked_view c.args.asked.now in
+    let opened : c.loop-branch.rest.now ≡ c.in-Some.branch.now ∷ c.in-Some.more.now = search rules in
+    λ more. c.loop-branch.invariant
+    (all_more (never_in asked) told_branch c.loop-branch.rest.now c.in-Some.branch.now c.in-Some.more.now opened
+    (has_no_outputs asked (told_branch c.in-Some.branch.now) (c.in_ok-never.ensures c.if-not-never.false)) more)
+
+pub returns : goal.returns
+returns c =
+    let ended : c.loop-branch.rest.now ≡ [] = nil_from_length c.loop-branch.rest.now (search rules) in
+    λ e. c.loop-branch.invariant (all_end (never_in (asked_view c.args.asked.now)) told_branch c.loop-branch.rest.now ended)
