@@ -1,5 +1,5 @@
 -- Paths that answer alike, one after another.
-use Rattle.std.proofs.Common.{◌≡◌, ℕ, zero, suc, ◌≤◌, max, Bool, true, false, cond, Option, Some, None, List, refl, ◌∙◌, arith}
+use Rattle.std.proofs.Common.{◌≡◌, ℕ, zero, suc, ◌≤◌, max, Bool, true, false, cond, Option, Some, None, List, refl, sym, ◌∙◌, arith}
 use Rattle.cf_num.specs.Limit.{limit}
 use Rattle.cf_tree.specs.CodeTree.{CodeTree}
 use Rattle.cf_tree.specs.Meaning.{path, Got, got, none_at, Path, then_gives, then_peak, then_path, gives_only, if_some, or_later, first_from}
@@ -11,6 +11,9 @@ alike_refl p = (λ l. (l, refl), λ l. (l, refl))
 
 pub alike_same : {A : Type 0} (p q : Path A) → p ≡ q → Alike p q
 alike_same p q e = rw e (alike_refl q)
+
+pub both_fit : {A : Type 0} (p q : Path A) → p.peak ≤ limit → q.peak ≤ limit → q.gives ≡ p.gives → Alike p q
+both_fit p q l m e = (λ k. (m, e), λ k. (l, sym e))
 
 follows_trans : {A : Type 0} (p q r : Path A) → Follows p q → Follows q r → Follows p r
 follows_trans p q r f g l = let a = f l in let b = g a.0 in (b.0, b.1 ∙ a.1)

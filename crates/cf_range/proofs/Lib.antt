@@ -1,4 +1,5 @@
 pub mod AlikeLemmas
+pub mod ItselfLaws
 pub mod NumberLemmas
 pub mod PathLemmas
 pub mod PutLaws
@@ -6,6 +7,7 @@ pub mod PutTypes
 mod RangeExamples
 pub mod RangeLaws
 pub mod RestLaws
+pub mod RowLaws
 mod SettledExamples
 pub mod SettledLaws
 pub mod SettledLists

@@ -3,8 +3,8 @@ use Rattle.std.proofs.Common.{◌≡◌, ◌≢◌, ◌<◌, ◌≤◌, ℕ, zer
 use Rattle.std.proofs.lemmas.Bool.Decides.{nat_tests}
 use Rattle.std.proofs.lemmas.Bool.{cases_lt}
 use Rattle.std.proofs.lemmas.List.{append_assoc}
-use Rattle.cf_tree.specs.CodeTree.{CodeTree, code_lit, code_truth, code_var, code_set_of, code_tuple, code_sum, code_sub, code_mul, code_neg, code_div, code_mod, code_min, code_max, code_compare, code_divides, code_and, code_or, code_not, code_union, code_inter, code_diff, code_subset, code_card, code_slice, code_fresh, code_if, code_let, code_solve, CodeTrees, no_codes, code_more, ItemTree, let_item, need_item, ItemTrees, no_items, item_more, ArmTree, arm_of, ArmTrees, no_arms, arm_more, count}
-use Rattle.cf_tree.specs.Meaning.{Path, then_path, path, all_path, set_path, sum_path, best_path, join_path, arms_path, arm_path, meets, meets_all, meets_value, tuple_at, count_below, gives_only, gives_truth, number_in, truth_in}
+use Rattle.cf_tree.specs.CodeTree.{CodeTree, code_lit, code_truth, code_var, code_set_of, code_tuple, code_sum, code_sub, code_mul, code_neg, code_div, code_mod, code_min, code_max, code_compare, code_divides, code_and, code_or, code_not, code_union, code_inter, code_diff, code_subset, code_card, code_slice, code_fresh, code_if, code_let, code_solve, CodeTrees, no_codes, code_more, let_item, need_item, ItemTrees, no_items, item_more, ArmTree, arm_of, ArmTrees, no_arms, arm_more}
+use Rattle.cf_tree.specs.Meaning.{Path, path, all_path, set_path, sum_path, best_path, join_path, arms_path, arm_path, meets, meets_all, meets_value, tuple_at, count_below, gives_only, gives_truth, number_in, truth_in}
 use Rattle.cf_tree.specs.Values.{Value, number, value_at}
 use Rattle.cf_range.specs.Alike.{Alike}
 use Rattle.cf_range.specs.Put.{fallen, var_put, put, all_put, items_put, arm_put, arms_put}

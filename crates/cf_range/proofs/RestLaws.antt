@@ -1,8 +1,8 @@
 -- What is left of an arm from some item on, as one path.
-use Rattle.std.proofs.Common.{◌≡◌, ℕ, zero, suc, ◌≤◌, max, Bool, true, false, cond, Option, Some, None, List, [], ◌∷◌, ◌++◌, refl, sym, ap, ◌∙◌, arith}
+use Rattle.std.proofs.Common.{◌≡◌, ℕ, ◌≤◌, max, Bool, true, false, cond, Option, Some, None, List, [], ◌++◌, refl, sym, ap, ◌∙◌, arith}
 use Rattle.cf_num.specs.Limit.{limit}
 use Rattle.cf_tree.specs.CodeTree.{CodeTree, CodeTrees, let_item, need_item, ItemTrees, no_items, item_more}
-use Rattle.cf_tree.specs.Meaning.{Got, got, none_at, Path, then_gives, then_peak, then_path, gives_only, if_some, path, all_path, items_path, truth_in}
+use Rattle.cf_tree.specs.Meaning.{Got, got, none_at, Path, then_path, gives_only, if_some, path, all_path, items_path, truth_in}
 use Rattle.cf_tree.specs.Values.{Value}
 use Rattle.cf_range.specs.Alike.{Alike}
 use Rattle.cf_range.proofs.AlikeLemmas.{alike_refl, alike_same, alike_trans, alike_then, alike_one, alike_cond, met_before}

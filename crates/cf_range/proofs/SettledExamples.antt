@@ -1,11 +1,11 @@
 -- What settling makes of a code: which lets go, and which stay.
-use Rattle.std.proofs.Common.{◌≡◌, ◌^◌, pos, true, false, [], ◌∷◌, refl, arith}
-use Rattle.cf_tree.specs.declared.base.Order.TheVariants.{Ge}
+use Rattle.std.proofs.Common.{◌≡◌, ◌^◌, ◌-◌, pos, negsuc, true, false, [], ◌∷◌, refl, arith}
+use Rattle.cf_tree.specs.declared.base.Order.TheVariants.{Eq, Ne, Lt, Le, Gt, Ge}
 use Rattle.cf_tree.specs.CodeTree.{CodeTree, code_lit, code_truth, code_var, code_tuple, code_sum, code_neg, code_div, code_compare, code_and, code_if, code_let, code_solve, CodeTrees, no_codes, code_more, let_item, need_item, no_items, item_more, arm_of, no_arms, arm_more}
 use Rattle.cf_range.specs.Alike.{AnswersAlike}
 use Rattle.cf_range.specs.Put.{fallen, put}
 use Rattle.cf_range.specs.Ranges.{between, whole}
-use Rattle.cf_range.specs.Settled.{gives_so_many, stands_anywhere, up_to, uses, weight, with_wholes, bare, items_dropped, settled}
+use Rattle.cf_range.specs.Settled.{comparison, gives_so_many, stands_anywhere, up_to, uses, weight, with_wholes, bare, items_dropped, settled}
 
 abbrev x : CodeTree
 x = code_var 0
@@ -182,3 +182,46 @@ fallen-above = refl
 
 fallen-below : fallen 3 2 ≡ 2
 fallen-below = refl
+
+-- ---- a comparison of a code with itself
+comparison-eq : comparison [] Eq x x ≡ code_truth true
+comparison-eq = refl
+
+comparison-ne : comparison [] Ne x x ≡ code_truth false
+comparison-ne = refl
+
+comparison-lt : comparison [] Lt x x ≡ code_truth false
+comparison-lt = refl
+
+comparison-le : comparison [] Le x x ≡ code_truth true
+comparison-le = refl
+
+comparison-gt : comparison [] Gt x x ≡ code_truth false
+comparison-gt = refl
+
+comparison-ge : comparison [] Ge x x ≡ code_truth true
+comparison-ge = refl
+
+comparison-two : comparison [] Lt x y ≡ code_compare Lt x y
+comparison-two = refl
+
+comparison-numeral : comparison [] Eq (code_lit (pos 3)) (code_lit (pos 3)) ≡ code_truth true
+comparison-numeral = refl
+
+comparison-two_numerals : comparison [] Eq (code_lit (pos 3)) (code_lit (pos 4)) ≡ code_compare Eq (code_lit (pos 3)) (code_lit (pos 4))
+comparison-two_numerals = refl
+
+comparison-mixed : comparison [] Eq (code_lit (pos 0)) x ≡ code_compare Eq (code_lit (pos 0)) x
+comparison-mixed = refl
+
+-- a numeral past the limit is met
+comparison-past : comparison [] Eq (code_lit (negsuc (2 ^ 127 - 1))) (code_lit (negsuc (2 ^ 127 - 1)))
+    ≡ code_compare Eq (code_lit (negsuc (2 ^ 127 - 1))) (code_lit (negsuc (2 ^ 127 - 1)))
+comparison-past = refl
+
+-- other codes are not looked at
+comparison-other : comparison [] Eq (code_neg x) (code_neg x) ≡ code_compare Eq (code_neg x) (code_neg x)
+comparison-other = refl
+
+settled-comparison : settled (whole ∷ []) (code_and (code_compare Lt x x) (code_compare Le x x)) ≡ code_and (code_truth false) (code_truth true)
+settled-comparison = refl

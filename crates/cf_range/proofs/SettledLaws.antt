@@ -1,10 +1,10 @@
 -- What settling makes of a code answers alike.
-use Rattle.std.proofs.Common.{◌≡◌, ◌≤◌, ℕ, zero, suc, nat_eq, ℤ, pos, ◌+ℤ◌, Bool, true, false, cond, ◌&&◌, Option, Some, None, List, [], ◌∷◌, ◌++◌, length, refl, sym, ap, subst, ◌∙◌, arith}
+use Rattle.std.proofs.Common.{◌≡◌, ◌≤◌, ℕ, zero, suc, nat_eq, ℤ, pos, ◌+ℤ◌, Bool, true, false, cond, ◌&&◌, Option, None, List, [], ◌∷◌, ◌++◌, length, refl, sym, ap, subst, ◌∙◌, arith}
 use Rattle.std.specs.Prelude.{unsigned_abs}
 use Rattle.std.proofs.lemmas.List.{append_assoc}
 use Rattle.cf_num.specs.Limit.{limit}
-use Rattle.cf_tree.specs.CodeTree.{CodeTree, code_lit, code_truth, code_var, code_set_of, code_tuple, code_sum, code_sub, code_mul, code_neg, code_div, code_mod, code_min, code_max, code_compare, code_divides, code_and, code_or, code_not, code_union, code_inter, code_diff, code_subset, code_card, code_slice, code_fresh, code_if, code_let, code_solve, CodeTrees, no_codes, code_more, ItemTree, let_item, need_item, ItemTrees, no_items, item_more, ArmTree, arm_of, ArmTrees, no_arms, arm_more, count}
-use Rattle.cf_tree.specs.Meaning.{Got, got, none_at, Path, then_gives, then_path, path, all_path, set_path, sum_path, best_path, join_path, arms_path, arm_path, meets, meets_all, meets_value, tuple_at, count_below, gives_only, gives_truth, number_in, truth_in}
+use Rattle.cf_tree.specs.CodeTree.{CodeTree, code_lit, code_truth, code_var, code_set_of, code_tuple, code_sum, code_sub, code_mul, code_neg, code_div, code_mod, code_min, code_max, code_compare, code_divides, code_and, code_or, code_not, code_union, code_inter, code_diff, code_subset, code_card, code_slice, code_fresh, code_if, code_let, code_solve, CodeTrees, no_codes, code_more, let_item, need_item, ItemTrees, no_items, item_more, ArmTree, arm_of, ArmTrees, no_arms, arm_more}
+use Rattle.cf_tree.specs.Meaning.{Got, got, none_at, Path, then_path, path, all_path, set_path, sum_path, best_path, join_path, arms_path, arm_path, meets, meets_all, meets_value, tuple_at, count_below, gives_only, gives_truth, number_in, truth_in}
 use Rattle.cf_tree.specs.Values.{Value, number, truth, elements, number_of}
 use Rattle.cf_shift.specs.Meeting.{AreSmall}
 use Rattle.cf_shift.proofs.MeetingLaws.{path_own}
@@ -13,11 +13,12 @@ use Rattle.cf_range.specs.Alike.{Alike, AnswersAlike}
 use Rattle.cf_range.specs.CodeRanges.{range_of}
 use Rattle.cf_range.specs.Put.{put, items_put, all_put}
 use Rattle.cf_range.specs.Ranges.{LiesIn, LieIn, whole}
-use Rattle.cf_range.specs.Settled.{gives_so_many, items_bind_one, with_wholes, ranges_with, ranges_behind_all, uses, stands_anywhere, may_go, reads_well, goes, Rest, rest_of, arm_with, rest_uses, rest_put, behind, let_behind, let_settled, lets_dropped, arm_dropped, settled, all_settled, items_settled, arm_each, arm_settled, arms_settled}
+use Rattle.cf_range.specs.Settled.{comparison, gives_so_many, items_bind_one, with_wholes, ranges_with, ranges_behind_all, uses, stands_anywhere, may_go, reads_well, goes, Rest, arm_with, rest_uses, rest_put, behind, let_behind, let_settled, lets_dropped, arm_dropped, settled, all_settled, items_settled, arm_each, arm_settled, arms_settled}
 use Rattle.cf_range.specs.Total.{is_total}
 use Rattle.cf_range.proofs.NumberLemmas.{lies_whole}
 use Rattle.cf_range.proofs.RangeLaws.{lie_behind, values_lie, total_codes}
-use Rattle.cf_range.proofs.AlikeLemmas.{alike_refl, alike_same, alike_trans, alike_then, alike_one, alike_two, alike_cond, alike_later, alike_first, met_before, either_code}
+use Rattle.cf_range.proofs.AlikeLemmas.{both_fit, alike_refl, alike_same, alike_trans, alike_then, alike_one, alike_two, alike_cond, alike_later, alike_first, met_before, either_code}
+use Rattle.cf_range.proofs.ItselfLaws.{comparison_alike}
 use Rattle.cf_range.proofs.PutLaws.{eq_means, put_alike, rest_alike}
 use Rattle.cf_range.proofs.RestLaws.{give_path, rest_path, let_first, give_alike, none_alike, lets_alike, needs_alike}
 use Rattle.cf_range.proofs.StandsLaws.{stands_same, stands_one, code_counted}
@@ -101,9 +102,6 @@ lie_searches rs env bounds i vs lie e l =
     lie_wholes vs rs env (length bounds) (b.0 ∙ tuple_length bounds i) b.1 lie
 
 -- ---- a value in the place of its variable
-both_fit : {A : Type 0} (p q : Path A) → p.peak ≤ limit → q.peak ≤ limit → q.gives ≡ p.gives → Alike p q
-both_fit p q l m e = (λ k. (m, e), λ k. (l, sym e))
-
 value_meets : (v : Value) → unsigned_abs (number_of v) ≤ limit → ((meets_value v).peak ≤ limit) × ((meets_value v).gives ≡ got (v ∷ []))
 value_meets (number z) l = (l, refl)
 value_meets (truth b) l = (omega arith, refl)
@@ -234,7 +232,10 @@ mutual
   settled_alike rs (code_mod a k) env lie = alike_one (from a env) (to rs a env) _ (settled_alike rs a env lie)
   settled_alike rs (code_min cs) env lie = best_alike rs _ cs env None lie
   settled_alike rs (code_max cs) env lie = best_alike rs _ cs env None lie
-  settled_alike rs (code_compare o a b) env lie = alike_two (from a env) (to rs a env) (from b env) (to rs b env) _ (settled_alike rs a env lie) (settled_alike rs b env lie)
+  settled_alike rs (code_compare o a b) env lie =
+      alike_trans (path (code_compare o a b) env) (path (code_compare o (settled rs a) (settled rs b)) env) (path (comparison rs o (settled rs a) (settled rs b)) env)
+      (alike_two (from a env) (to rs a env) (from b env) (to rs b env) _ (settled_alike rs a env lie) (settled_alike rs b env lie))
+      (comparison_alike rs o (settled rs a) (settled rs b) env lie)
   settled_alike rs (code_divides k a) env lie = alike_one (from a env) (to rs a env) _ (settled_alike rs a env lie)
   settled_alike rs (code_and a b) env lie = alike_then (from a env) (to rs a env) _ _ (settled_alike rs a env lie)
       (λ x e l. alike_cond (truth_in x) (from b env) (to rs b env) (gives_truth false) (gives_truth false) (settled_alike rs b env lie) (alike_refl (gives_truth false)))

@@ -1,17 +1,17 @@
 -- Settling keeps the types of a code.
-use Rattle.std.proofs.Common.{◌≡◌, ℕ, zero, suc, ◌+◌, ◌-◌, ◌<◌, ◌≤◌, nat_eq, Bool, true, false, cond, ◌&&◌, Option, Some, None, List, [], ◌∷◌, ◌++◌, length, map, slice_get, length-append, refl, sym, ap, subst, ◌∙◌, arith}
-use Rattle.std.proofs.lemmas.List.{append_assoc}
+use Rattle.std.proofs.Common.{◌≡◌, ℕ, zero, suc, ◌+◌, ◌≤◌, nat_eq, Bool, true, false, cond, ◌&&◌, Option, None, List, [], ◌∷◌, ◌++◌, length, map, length-append, refl, sym, ap, subst, ◌∙◌, arith}
 use Rattle.cf_tree.specs.declared.base.Base.{Base}
 use Rattle.cf_tree.specs.declared.base.Base.TheVariants.{Int, Bool as Truth, Set}
-use Rattle.cf_tree.specs.CodeTree.{CodeTree, code_lit, code_truth, code_var, code_set_of, code_tuple, code_sum, code_sub, code_mul, code_neg, code_div, code_mod, code_min, code_max, code_compare, code_divides, code_and, code_or, code_not, code_union, code_inter, code_diff, code_subset, code_card, code_slice, code_fresh, code_if, code_let, code_solve, CodeTrees, no_codes, code_more, ItemTree, let_item, need_item, ItemTrees, no_items, item_more, ArmTree, arm_of, ArmTrees, no_arms, arm_more, count}
+use Rattle.cf_tree.specs.CodeTree.{CodeTree, code_lit, code_truth, code_var, code_set_of, code_tuple, code_sum, code_sub, code_mul, code_neg, code_div, code_mod, code_min, code_max, code_compare, code_divides, code_and, code_or, code_not, code_union, code_inter, code_diff, code_subset, code_card, code_slice, code_fresh, code_if, code_let, code_solve, CodeTrees, no_codes, code_more, let_item, need_item, ItemTrees, no_items, item_more, ArmTree, arm_of, ArmTrees, no_arms, arm_more, count}
 use Rattle.cf_tree.specs.Typing.{HasBases, AllHave, PartsHave, ItemsHave, ArmsHave, HasNoSolve, HaveNoSolve, ItemsHaveNoSolve, IsGiven, Meets, ask, one, share, side}
 use Rattle.cf_range.specs.declared.range.Range.{Range}
 use Rattle.cf_range.specs.Alike.{KeepsTypes}
 use Rattle.cf_range.specs.CodeRanges.{range_of}
-use Rattle.cf_range.specs.Put.{put, items_put, all_put}
+use Rattle.cf_range.specs.Put.{put}
 use Rattle.cf_range.specs.Ranges.{whole}
 use Rattle.cf_range.specs.Settled.{gives_so_many, items_bind_one, with_wholes, ranges_with, ranges_behind_all, uses, stands_anywhere, may_go, reads_well, goes, Rest, arm_with, rest_uses, rest_put, behind, let_behind, let_settled, lets_dropped, arm_dropped, settled, all_settled, items_settled, arm_each, arms_settled}
 use Rattle.cf_range.specs.Total.{is_total}
+use Rattle.cf_range.proofs.ItselfLaws.{comparison_free, comparison_typed}
 use Rattle.cf_range.proofs.PutLaws.{eq_means}
 use Rattle.cf_range.proofs.PutTypes.{either_free, either_typed, put_free, all_put_free, items_put_free, put_typed, items_typed}
 use Rattle.cf_range.proofs.StandsLaws.{stands_free, stands_typed, stands_asked}
@@ -132,7 +132,7 @@ mutual
   settled_free rs (code_mod a k) h = settled_free rs a h
   settled_free rs (code_min cs) h = all_settled_free rs cs h
   settled_free rs (code_max cs) h = all_settled_free rs cs h
-  settled_free rs (code_compare o a b) h = (settled_free rs a h.0, settled_free rs b h.1)
+  settled_free rs (code_compare o a b) h = comparison_free rs o (settled rs a) (settled rs b) (settled_free rs a h.0, settled_free rs b h.1)
   settled_free rs (code_divides k a) h = settled_free rs a h
   settled_free rs (code_and a b) h = (settled_free rs a h.0, settled_free rs b h.1)
   settled_free rs (code_or a b) h = (settled_free rs a h.0, settled_free rs b h.1)
@@ -223,7 +223,8 @@ mutual
   settled_keeps rs (code_mod a k) scope asked bs e h = (h.0, settled_keeps rs a scope (ask Int) (one Int) e h.1, h.2)
   settled_keeps rs (code_min cs) scope asked bs e h = (at_least 1 rs cs h.0, all_keep rs cs scope Int e h.1, h.2)
   settled_keeps rs (code_max cs) scope asked bs e h = (at_least 1 rs cs h.0, all_keep rs cs scope Int e h.1, h.2)
-  settled_keeps rs (code_compare o a b) scope asked bs e h = (h.0, h.1, settled_keeps rs a scope (side o) (one h.0) e h.2, settled_keeps rs b scope (side o) (one h.0) e h.3, h.4)
+  settled_keeps rs (code_compare o a b) scope asked bs e h = comparison_typed rs o (settled rs a) (settled rs b) scope asked bs
+      (h.0, h.1, settled_keeps rs a scope (side o) (one h.0) e h.2, settled_keeps rs b scope (side o) (one h.0) e h.3, h.4)
   settled_keeps rs (code_divides k a) scope asked bs e h = (h.0, settled_keeps rs a scope (ask Int) (one Int) e h.1, h.2)
   settled_keeps rs (code_and a b) scope asked bs e h = (settled_keeps rs a scope (ask Truth) (one Truth) e h.0, settled_keeps rs b scope (ask Truth) (one Truth) e h.1, h.2)
   settled_keeps rs (code_or a b) scope asked bs e h = (settled_keeps rs a scope (ask Truth) (one Truth) e h.0, settled_keeps rs b scope (ask Truth) (one Truth) e h.1, h.2)

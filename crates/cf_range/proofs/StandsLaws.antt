@@ -1,13 +1,12 @@
 -- Values that stand anywhere: they give the same whatever is bound behind, have the same types, and are one.
-use Rattle.std.proofs.Common.{◌≡◌, ◌<◌, ◌≤◌, ℕ, zero, suc, ◌+◌, nat_eq, nat_lt, max, ℤ, pos, ◌+ℤ◌, Bool, true, false, cond, ◌&&◌, Option, Some, None, List, [], ◌∷◌, ◌++◌, length, slice_get, slice_index_or, length-append, refl, sym, ap, subst, ◌∙◌, arith}
+use Rattle.std.proofs.Common.{◌≡◌, ◌<◌, ℕ, zero, suc, ◌+◌, nat_eq, max, ℤ, pos, ◌+ℤ◌, Bool, true, false, cond, ◌&&◌, Option, Some, None, List, [], ◌∷◌, ◌++◌, length, slice_get, length-append, refl, sym, ap, ◌∙◌, arith}
 use Rattle.std.specs.Int.{int_max, int_min}
-use Rattle.cf_num.specs.Limit.{limit}
-use Rattle.cf_tree.specs.CodeTree.{CodeTree, code_lit, code_truth, code_var, code_set_of, code_tuple, code_sum, code_sub, code_mul, code_neg, code_div, code_mod, code_min, code_max, code_compare, code_divides, code_and, code_or, code_not, code_union, code_inter, code_diff, code_subset, code_card, code_slice, code_fresh, code_if, code_let, code_solve, CodeTrees, no_codes, code_more, ItemTree, let_item, need_item, ItemTrees, no_items, item_more, ArmTree, arm_of, ArmTrees, no_arms, arm_more, count}
+use Rattle.cf_tree.specs.CodeTree.{CodeTree, code_lit, code_truth, code_var, code_set_of, code_tuple, code_sum, code_sub, code_mul, code_neg, code_div, code_mod, code_min, code_max, code_compare, code_divides, code_and, code_or, code_not, code_union, code_inter, code_diff, code_subset, code_card, code_slice, code_fresh, code_if, code_let, code_solve, CodeTrees, no_codes, code_more, ArmTree, arm_of, ArmTrees, no_arms, arm_more, count}
 use Rattle.cf_tree.specs.declared.base.Base.{Base}
 use Rattle.cf_tree.specs.declared.base.Base.TheVariants.{Int}
-use Rattle.cf_tree.specs.Meaning.{Got, got, none_at, Path, then_gives, then_peak, then_path, path, all_path, set_path, sum_path, best_path, join_path, items_path, arm_path, arms_path, meets, meets_all, meets_value, tuple_at, count_below, gives_only, if_some, or_later, or_none, first_from, number_in, truth_in, choose_with}
+use Rattle.cf_tree.specs.Meaning.{Got, got, none_at, Path, then_gives, then_peak, then_path, path, all_path, set_path, sum_path, best_path, join_path, items_path, arm_path, arms_path, meets, meets_all, meets_value, tuple_at, count_below, if_some, or_later, or_none, first_from, number_in, truth_in, choose_with}
 use Rattle.cf_tree.specs.Typing.{HasBases, AllHave, HasNoSolve, HaveNoSolve, Meets, one, ask}
-use Rattle.cf_tree.specs.Values.{Value, number, truth, elements, value_at, number_of}
+use Rattle.cf_tree.specs.Values.{Value, number, truth, elements, value_at}
 use Rattle.cf_range.specs.Settled.{gives_so_many, each_gives_one, arm_gives_so_many, arms_give_so_many, stands_anywhere, all_stand_anywhere}
 use Rattle.cf_range.proofs.PutLaws.{eq_means, lt_means}
 

@@ -1,70 +1,26 @@
 -- What tidying makes of a code answers alike.
-use Rattle.std.proofs.Common.{◌≡◌, ℕ, suc, nat_eq, ℤ, pos, negsuc, neg_ℤ, ◌+ℤ◌, ◌*ℤ◌, Bool, true, false, cond, ◌&&◌, Option, Some, None, List, [], ◌∷◌, ◌++◌, length, refl, sym, ap, subst, arith}
-use Rattle.std.proofs.lemmas.Int.{ints}
+use Rattle.std.proofs.Common.{◌≡◌, ℕ, suc, nat_eq, ℤ, pos, ◌+ℤ◌, Bool, true, false, not, cond, ◌&&◌, Option, Some, None, List, [], ◌∷◌, ◌++◌, length, refl, sym, ap, subst, arith}
 use Rattle.cf_tree.specs.CodeTree.{CodeTree, code_lit, code_truth, code_var, code_set_of, code_tuple, code_sum, code_sub, code_mul, code_neg, code_div, code_mod, code_min, code_max, code_compare, code_divides, code_and, code_or, code_not, code_union, code_inter, code_diff, code_subset, code_card, code_slice, code_fresh, code_if, code_let, code_solve, CodeTrees, no_codes, code_more, ItemTree, let_item, need_item, ItemTrees, no_items, item_more, ArmTree, arm_of, ArmTrees, no_arms, arm_more}
 use Rattle.cf_tree.specs.Meaning.{Got, got, none_at, Path, then_gives, then_path, if_some, or_later, path, all_path, set_path, sum_path, best_path, join_path, items_path, item_path, arms_path, arm_path, meets, meets_all, tuple_at, count_below, gives_only, gives_truth, number_in, truth_in}
 use Rattle.cf_tree.specs.Values.{Value}
-use Rattle.cf_tree.proofs.SetLemmas.{eq_is}
 use Rattle.cf_range.specs.declared.range.Range.{Range}
 use Rattle.cf_range.specs.Alike.{Alike, AnswersAlike}
-use Rattle.cf_range.specs.Tidied.{is_minus_one, product, tidied, all_tidied, item_tidied, items_tidied, arm_tidied, arms_tidied, always_holds, other_items, needs_nothing, always_gives, reached}
+use Rattle.cf_range.specs.Tidied.{negation, product, nonzero, sum_of, tidied, all_tidied, item_tidied, items_tidied, arm_tidied, arms_tidied, always_holds, other_items, needs_nothing, always_gives, never_holds, begins_false, is_left, are_left, other_arms, entered, reached}
 use Rattle.cf_range.specs.Settled.{settled}
 use Rattle.cf_range.proofs.NumberLemmas.{on_bool}
 use Rattle.cf_range.proofs.PutLaws.{eq_means}
 use Rattle.cf_range.proofs.RestLaws.{give_path, rest_path}
+use Rattle.cf_range.proofs.RowLaws.{negation_alike, product_alike, nonzero_alike, sum_alike}
 use Rattle.cf_range.proofs.SettledLaws.{settled_answers}
-use Rattle.cf_range.proofs.AlikeLemmas.{alike_refl, alike_same, alike_trans, alike_then, alike_one, alike_two, alike_cond, alike_later, alike_some, alike_first, met_before}
+use Rattle.cf_range.proofs.AlikeLemmas.{alike_refl, alike_trans, alike_then, alike_one, alike_two, alike_cond, alike_later, alike_some, alike_first, met_before}
 
--- ---- the rows
+-- ---- needs
 no_truth : false ≡ true → ⊥
 no_truth e = cc
 
 and_true : (a b : Bool) → (a && b) ≡ true → (a ≡ true) × (b ≡ true)
 and_true true b e = (refl, e)
 and_true false b e = cc
-
-minus_one_is : (c : CodeTree) → is_minus_one c ≡ true → c ≡ code_lit (negsuc 0)
-minus_one_is (code_lit k) e = ap code_lit (eq_is k (negsuc 0) e)
-minus_one_is (code_truth t) e = cc
-minus_one_is (code_var x) e = cc
-minus_one_is (code_set_of cs) e = cc
-minus_one_is (code_tuple cs) e = cc
-minus_one_is (code_sum cs) e = cc
-minus_one_is (code_sub a b) e = cc
-minus_one_is (code_mul a b) e = cc
-minus_one_is (code_neg a) e = cc
-minus_one_is (code_div a k) e = cc
-minus_one_is (code_mod a k) e = cc
-minus_one_is (code_min cs) e = cc
-minus_one_is (code_max cs) e = cc
-minus_one_is (code_compare o a b) e = cc
-minus_one_is (code_divides k a) e = cc
-minus_one_is (code_and a b) e = cc
-minus_one_is (code_or a b) e = cc
-minus_one_is (code_not a) e = cc
-minus_one_is (code_union cs) e = cc
-minus_one_is (code_inter cs) e = cc
-minus_one_is (code_diff a b) e = cc
-minus_one_is (code_subset a b) e = cc
-minus_one_is (code_card a) e = cc
-minus_one_is (code_slice a b c) e = cc
-minus_one_is (code_fresh a b) e = cc
-minus_one_is (code_if t a b) e = cc
-minus_one_is (code_let first count a b) e = cc
-minus_one_is (code_solve n arms) e = cc
-
-negated_alike : (b : CodeTree) (env : List Value) → Alike (path (code_mul (code_lit (negsuc 0)) b) env) (path (code_neg b) env)
-negated_alike b env = met_before 1 (then_path (path b env) (λ y. meets (negsuc 0 *ℤ number_in y))) (path (code_neg b) env) (omega arith)
-    (alike_then (path b env) (path b env) _ _ (alike_refl (path b env)) (λ y e l.
-    alike_same (meets (negsuc 0 *ℤ number_in y)) (meets (neg_ℤ (number_in y))) (ap meets (turned (number_in y)))))
-  where
-    turned : (y : ℤ) → negsuc 0 *ℤ y ≡ neg_ℤ y
-    turned y = omega (arith, ints)
-
-product_alike : (a b : CodeTree) (env : List Value) → Alike (path (code_mul a b) env) (path (product a b) env)
-product_alike a b env = on_bool (is_minus_one a)
-    (λ e. rw e (subst (λ d. Alike (path (code_mul d b) env) (path (code_neg b) env)) (sym (minus_one_is a e)) (negated_alike b env)))
-    (λ e. rw e (alike_refl (path (code_mul a b) env)))
 
 always_is : (i : ItemTree) → always_holds i ≡ true → i ≡ need_item (code_truth true)
 always_is (let_item c) e = cc
@@ -177,6 +133,67 @@ reached_alike (arm_more a arms) env = alike_then (arm_path a env) (arm_path a en
     by true o h k = h refl
     by false o h k = alike_later o (arms_path arms env) (arms_path (reached arms) env) k
 
+-- ---- an arm that is left at once
+is_false : (t : Bool) → not t ≡ true → t ≡ false
+is_false true e = cc
+is_false false e = refl
+
+never_is : (i : ItemTree) → never_holds i ≡ true → i ≡ need_item (code_truth false)
+never_is (let_item c) e = cc
+never_is (need_item (code_lit k)) e = cc
+never_is (need_item (code_truth t)) e = ap (λ b. need_item (code_truth b)) (is_false t e)
+never_is (need_item (code_var x)) e = cc
+never_is (need_item (code_set_of cs)) e = cc
+never_is (need_item (code_tuple cs)) e = cc
+never_is (need_item (code_sum cs)) e = cc
+never_is (need_item (code_sub a b)) e = cc
+never_is (need_item (code_mul a b)) e = cc
+never_is (need_item (code_neg a)) e = cc
+never_is (need_item (code_div a k)) e = cc
+never_is (need_item (code_mod a k)) e = cc
+never_is (need_item (code_min cs)) e = cc
+never_is (need_item (code_max cs)) e = cc
+never_is (need_item (code_compare o a b)) e = cc
+never_is (need_item (code_divides k a)) e = cc
+never_is (need_item (code_and a b)) e = cc
+never_is (need_item (code_or a b)) e = cc
+never_is (need_item (code_not a)) e = cc
+never_is (need_item (code_union cs)) e = cc
+never_is (need_item (code_inter cs)) e = cc
+never_is (need_item (code_diff a b)) e = cc
+never_is (need_item (code_subset a b)) e = cc
+never_is (need_item (code_card a)) e = cc
+never_is (need_item (code_slice a b c)) e = cc
+never_is (need_item (code_fresh a b)) e = cc
+never_is (need_item (code_if t a b)) e = cc
+never_is (need_item (code_let first n a b)) e = cc
+never_is (need_item (code_solve n arms)) e = cc
+
+left_alike : (a : ArmTree) (arms others : ArmTrees) (env : List Value) → is_left a ≡ true → Alike (arms_path arms env) (arms_path others env) →
+    Alike (arms_path (arm_more a arms) env) (arms_path others env)
+left_alike (arm_of (b ∷ bounds) is gs) arms others env t h =
+    absurd (no_bounds (length bounds) (and_true (nat_eq (length (b ∷ bounds)) 0) (begins_false is) t).0)
+left_alike (arm_of [] no_items gs) arms others env t h = absurd (no_truth t)
+left_alike (arm_of [] (item_more i is) gs) arms others env t h =
+    subst (λ j. Alike (arms_path (arm_more (arm_of [] (item_more j is) gs) arms) env) (arms_path others env)) (sym (never_is i t))
+    (met_before 0 (arms_path arms env) (arms_path others env) (omega arith) h)
+
+either_arms : (t : Bool) (p : Path (Option (List Value))) (arms others : ArmTrees) (env : List Value) → (t ≡ true → Alike p (arms_path arms env)) →
+    (t ≡ false → Alike p (arms_path others env)) → Alike p (arms_path (cond t arms others) env)
+either_arms true p arms others env h k = h refl
+either_arms false p arms others env h k = k refl
+
+other_arms_alike : (arms : ArmTrees) (env : List Value) → Alike (arms_path arms env) (arms_path (other_arms arms) env)
+other_arms_alike no_arms env = alike_refl (arms_path no_arms env)
+other_arms_alike (arm_more a arms) env = either_arms (is_left a) (arms_path (arm_more a arms) env) (other_arms arms) (arm_more a (other_arms arms)) env
+    (λ t. left_alike a arms (other_arms arms) env t (other_arms_alike arms env))
+    (λ t. alike_then (arm_path a env) (arm_path a env) _ _ (alike_refl (arm_path a env))
+    (λ found e l. alike_later found (arms_path arms env) (arms_path (other_arms arms) env) (other_arms_alike arms env)))
+
+entered_alike : (arms : ArmTrees) (env : List Value) → Alike (arms_path arms env) (arms_path (entered arms) env)
+entered_alike arms env = either_arms (are_left arms) (arms_path arms env) arms (other_arms arms) env
+    (λ t. alike_refl (arms_path arms env)) (λ t. other_arms_alike arms env)
+
 -- ---- all forms
 mutual
   pub tidied_alike : (c : CodeTree) (env : List Value) → Alike (path c env) (path (tidied c) env)
@@ -185,13 +202,17 @@ mutual
   tidied_alike (code_var x) env = alike_refl (path (code_var x) env)
   tidied_alike (code_set_of cs) env = set_alike cs env []
   tidied_alike (code_tuple cs) env = all_alike cs env []
-  tidied_alike (code_sum cs) env = parts_alike cs env (pos 0)
+  tidied_alike (code_sum cs) env = alike_trans (path (code_sum cs) env) (path (code_sum (all_tidied cs)) env) (path (sum_of (nonzero (all_tidied cs))) env)
+      (parts_alike cs env (pos 0))
+      (alike_trans (path (code_sum (all_tidied cs)) env) (path (code_sum (nonzero (all_tidied cs))) env) (path (sum_of (nonzero (all_tidied cs))) env)
+      (nonzero_alike (all_tidied cs) env (pos 0) (omega arith)) (sum_alike (nonzero (all_tidied cs)) env))
   tidied_alike (code_sub a b) env = alike_two (path a env) (path (tidied a) env) (path b env) (path (tidied b) env) _ (tidied_alike a env) (tidied_alike b env)
   tidied_alike (code_mul a b) env = alike_trans (path (code_mul a b) env) (path (code_mul (tidied a) (tidied b)) env)
       (path (product (tidied a) (tidied b)) env)
       (alike_two (path a env) (path (tidied a) env) (path b env) (path (tidied b) env) _ (tidied_alike a env) (tidied_alike b env))
       (product_alike (tidied a) (tidied b) env)
-  tidied_alike (code_neg a) env = alike_one (path a env) (path (tidied a) env) _ (tidied_alike a env)
+  tidied_alike (code_neg a) env = alike_trans (path (code_neg a) env) (path (code_neg (tidied a)) env) (path (negation (tidied a)) env)
+      (alike_one (path a env) (path (tidied a) env) _ (tidied_alike a env)) (negation_alike (tidied a) env)
   tidied_alike (code_div a k) env = alike_one (path a env) (path (tidied a) env) _ (tidied_alike a env)
   tidied_alike (code_mod a k) env = alike_one (path a env) (path (tidied a) env) _ (tidied_alike a env)
   tidied_alike (code_min cs) env = best_alike _ cs env None
@@ -214,9 +235,10 @@ mutual
   tidied_alike (code_if t a b) env = alike_then (path t env) (path (tidied t) env) _ _ (tidied_alike t env)
       (λ x e l. alike_cond (truth_in x) (path a env) (path (tidied a) env) (path b env) (path (tidied b) env) (tidied_alike a env) (tidied_alike b env))
   tidied_alike (code_let first count a b) env = alike_then (path a env) (path (tidied a) env) _ _ (tidied_alike a env) (λ x e l. tidied_alike b (env ++ x))
-  tidied_alike (code_solve n arms) env = alike_one (arms_path arms env) (arms_path (reached (arms_tidied arms)) env) _
-      (alike_trans (arms_path arms env) (arms_path (arms_tidied arms) env) (arms_path (reached (arms_tidied arms)) env) (arms_alike arms env)
-      (reached_alike (arms_tidied arms) env))
+  tidied_alike (code_solve n arms) env = alike_one (arms_path arms env) (arms_path (reached (entered (arms_tidied arms))) env) _
+      (alike_trans (arms_path arms env) (arms_path (arms_tidied arms) env) (arms_path (reached (entered (arms_tidied arms))) env) (arms_alike arms env)
+      (alike_trans (arms_path (arms_tidied arms) env) (arms_path (entered (arms_tidied arms)) env) (arms_path (reached (entered (arms_tidied arms))) env)
+      (entered_alike (arms_tidied arms) env) (reached_alike (entered (arms_tidied arms)) env)))
 
   all_alike : (cs : CodeTrees) (env done : List Value) → Alike (all_path cs env done) (all_path (all_tidied cs) env done)
   all_alike no_codes env done = alike_refl (gives_only done)

@@ -1,5 +1,9 @@
--- What settling makes of a code: a let goes whose value reads better in its place, or is used nowhere, and can be evaluated anywhere.
-use Rattle.std.specs.Prelude.{ℕ, zero, suc, ◌+◌, nat_eq, nat_lt, Bool, true, false, ◌&&◌, ◌||◌, List, [], ◌∷◌, ◌++◌, length, if◌then◌else◌}
+-- What settling makes of a code: a let goes whose value can be evaluated anywhere, where that reads better: a leaf, a negated variable, or a
+-- short value that stands at most once. A comparison of a variable, or of a numeral, with itself is decided.
+use Rattle.std.specs.Prelude.{ℕ, zero, suc, ℤ, ◌+◌, nat_eq, nat_lt, Bool, true, false, ◌&&◌, ◌||◌, List, [], ◌∷◌, ◌++◌, length, if◌then◌else◌}
+use Rattle.std.specs.Ordering.{int_eq}
+use Rattle.cf_tree.specs.declared.base.Order.{Order}
+use Rattle.cf_tree.specs.declared.base.Order.TheVariants.{Eq, Ne, Lt, Le, Gt, Ge}
 use Rattle.cf_tree.specs.CodeTree.{CodeTree, code_lit, code_truth, code_var, code_set_of, code_tuple, code_sum, code_sub, code_mul, code_neg, code_div, code_mod, code_min, code_max, code_compare, code_divides, code_and, code_or, code_not, code_union, code_inter, code_diff, code_subset, code_card, code_slice, code_fresh, code_if, code_let, code_solve, CodeTrees, no_codes, code_more, ItemTree, let_item, need_item, ItemTrees, no_items, item_more, ArmTree, arm_of, ArmTrees, no_arms, arm_more, count}
 use Rattle.cf_range.specs.CodeRanges.{range_of}
 use Rattle.cf_range.specs.Put.{put, all_put, items_put}
@@ -185,6 +189,30 @@ reads_well n c = nat_lt n 2 && nat_lt (weight c) 15
 abbrev pub goes : List Range → CodeTree → ℕ → Bool
 goes rs v n = may_go rs v && reads_well n v
 
+-- ---- a comparison of a code with itself
+abbrev pub is_lit : ℤ → CodeTree → Bool
+is_lit k (code_lit j) = int_eq k j
+is_lit k c = false
+
+-- whether two codes are one variable, or one numeral
+abbrev pub are_one : CodeTree → CodeTree → Bool
+are_one (code_var x) b = is_var x b
+are_one (code_lit k) b = is_lit k b
+are_one a b = false
+
+-- what a comparison says of a value and itself
+abbrev pub holds_of_itself : Order → Bool
+holds_of_itself Eq = true
+holds_of_itself Ne = false
+holds_of_itself Lt = false
+holds_of_itself Le = true
+holds_of_itself Gt = false
+holds_of_itself Ge = true
+
+-- a comparison, decided where both sides are one that can be evaluated anywhere
+abbrev pub comparison : List Range → Order → CodeTree → CodeTree → CodeTree
+comparison rs o a b = if are_one a b && is_total rs a then code_truth (holds_of_itself o) else code_compare o a b
+
 -- ---- the code
 -- what is left of an arm from some item on
 pub record Rest : Type 0 where
@@ -250,7 +278,7 @@ abbrev mutual
   settled rs (code_mod a k) = code_mod (settled rs a) k
   settled rs (code_min cs) = code_min (all_settled rs cs)
   settled rs (code_max cs) = code_max (all_settled rs cs)
-  settled rs (code_compare o a b) = code_compare o (settled rs a) (settled rs b)
+  settled rs (code_compare o a b) = comparison rs o (settled rs a) (settled rs b)
   settled rs (code_divides k a) = code_divides k (settled rs a)
   settled rs (code_and a b) = code_and (settled rs a) (settled rs b)
   settled rs (code_or a b) = code_or (settled rs a) (settled rs b)

@@ -92,7 +92,7 @@ fn up_to(most: u32, a: u32, b: u32) -> u32
     if most < sum { most } else { sum }
 }
 
-fn is_var(level: usize, code: &Code) -> bool
+pub(crate) fn is_var(level: usize, code: &Code) -> bool
     ensures { result ≡ is_var level (code_tree code.now) }
 {
     match code {

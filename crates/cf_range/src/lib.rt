@@ -6,6 +6,7 @@ ghost use Rattle.cf_range.specs.RangeLaws.{ValuesLieInRanges, NeedNoChecks, Rang
 mod codes;
 mod counts;
 mod dropping;
+mod itself;
 mod put;
 mod range;
 mod ranges;

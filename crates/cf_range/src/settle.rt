@@ -1,18 +1,19 @@
-//! Settling: a let goes whose value reads better in its place, or is used nowhere.
+//! Settling: a let goes whose value reads better in its place, and a comparison of a variable, or of a numeral, with itself
+//! is decided.
 ghost use Rattle.std.specs.Prelude.{◌≡◌, IfOk, if◌then◌else◌};
 ghost use Rattle.cf_tree.specs.CodeView.{code_tree, item_tree, arm_tree, code_trees, item_trees, arm_trees};
 ghost use Rattle.cf_range.specs.Settled.{gives_so_many, ranges_with, let_settled, settled, all_settled, item_settled, items_settled, arm_each, arm_settled, arms_settled};
 
 use crate::counts::{gives_so_many, goes_in, items_bind_one};
 use crate::dropping::arm_dropped;
+use crate::itself::comparison;
 use crate::put::put;
 use crate::range::Range;
 use crate::ranges::{range_behind, ranges_behind_all, ranges_with, with_wholes};
-use cf_shift::code_over_operands;
 use cf_tree::{Arm, Code, Item, NoMemory, code_over_list, code_over_one, code_over_three};
 use std::alloc::Global;
 
-/// The code without lets whose value goes into its place. `ranges` are those of its variables, by level.
+/// The code without lets whose value goes into its place, and without comparisons that are decided. `ranges` are those of its variables, by level.
 #[cycle(settle)]
 pub(crate) fn settle(alloc: Global, ranges: &[Range], code: &Code) -> Result<Code, NoMemory>
     ensures { IfOk result (λ new. code_tree new ≡ settled ranges.now (code_tree code.now)) }
@@ -39,7 +40,18 @@ pub(crate) fn settle(alloc: Global, ranges: &[Range], code: &Code) -> Result<Cod
             let new_body = settle_body(alloc, ranges, body, *count, value)?;
             let_settled(alloc, ranges, *first, *count, new_value, new_body)
         }
-        code_over_operands!(a, b) => {
+        Code::Compare { order, left, right } => {
+            let first = settle_boxed(alloc, ranges, left)?;
+            let second = settle_boxed(alloc, ranges, right)?;
+            Ok(comparison(ranges, *order, first, second))
+        }
+        Code::Sub(a, b)
+        | Code::Mul(a, b)
+        | Code::And(a, b)
+        | Code::Or(a, b)
+        | Code::Diff(a, b)
+        | Code::Subset(a, b)
+        | Code::Fresh { avoid: a, n: b } => {
             let first = settle_boxed(alloc, ranges, a)?;
             let second = settle_boxed(alloc, ranges, b)?;
             Ok(code.over_two(first, second))

@@ -1,12 +1,15 @@
 //! Tidying: other code with the same answers, which reads better.
-ghost use Rattle.std.specs.Prelude.{◌≡◌, IfOk, map};
+ghost use Rattle.std.specs.Prelude.{◌≡◌, IfOk, IfSome, Some, map, pos};
+ghost use Rattle.cf_num.specs.Limit.{IsWithin};
 ghost use Rattle.cf_tree.specs.CodeView.{code_tree, code_trees, item_tree, arm_tree, item_trees, arm_trees};
+ghost use Rattle.cf_tree.specs.CodeTree.{code_sum, code_min};
 ghost use Rattle.cf_range.specs.Alike.{AnswersAlike, KeepsTypes};
-ghost use Rattle.cf_range.specs.Tidied.{is_minus_one, product, tidied, all_tidied, item_tidied, items_tidied, arm_tidied, arms_tidied, always_holds, other_items, is_need, needs_nothing, always_gives, count_reached, reached};
+ghost use Rattle.cf_range.specs.Tidied.{is_minus_one, alone, negation, opposite as the_opposite, times, product, is_zero, nonzero, plus_numeral, numerals_sum as the_numerals_sum, sum_of_more, sum_of, tidied, all_tidied, item_tidied, items_tidied, arm_tidied, arms_tidied, always_holds, other_items, is_need, needs_nothing, always_gives, never_holds, begins_false, is_left, are_left, entered, count_reached, reached};
 
-use crate::range::Range;
+use crate::range::{Range, number_passes};
 use crate::settle::settle;
-use cf_tree::{Arm, Code, Item, NoMemory, code_over_list, code_over_one, code_over_three};
+use cf_num::add;
+use cf_tree::{Arm, Code, Item, NoMemory, code_over_three};
 use std::alloc::Global;
 
 /// The code, tidied: wherever the variables lie in their ranges it gives what the code gives, or both pass the limit; and in
@@ -42,13 +45,30 @@ fn tidy(alloc: Global, code: &Code) -> Result<Code, NoMemory>
         Code::Mul(a, b) => {
             let first = tidy_boxed(alloc, a)?;
             let second = tidy_boxed(alloc, b)?;
-            Ok(product(first, second))
+            product(alloc, first, second)
         }
-        code_over_list!(parts) => {
+        Code::Neg(a) => {
+            let part = tidy_boxed(alloc, a)?;
+            negation(alloc, part)
+        }
+        Code::Sum(parts) => {
+            let parts = tidy_all(alloc, parts)?;
+            Ok(sum(parts))
+        }
+        Code::SetOf(parts)
+        | Code::Tuple(parts)
+        | Code::Min(parts)
+        | Code::Max(parts)
+        | Code::Union(parts)
+        | Code::Inter(parts) => {
             let parts = tidy_all(alloc, parts)?;
             Ok(code.over_list(parts))
         }
-        code_over_one!(a) => {
+        Code::Not(a)
+        | Code::Card(a)
+        | Code::Div { of: a, .. }
+        | Code::Mod { of: a, .. }
+        | Code::Divides { of: a, .. } => {
             let part = tidy_boxed(alloc, a)?;
             Ok(code.over_one(part))
         }
@@ -80,6 +100,7 @@ fn tidy(alloc: Global, code: &Code) -> Result<Code, NoMemory>
         }
         Code::Solve { number, arms } => {
             let mut arms = tidy_arms(alloc, arms)?;
+            drop_left(&mut arms);
             drop_unreached(&mut arms);
             Ok(Code::Solve {
                 number: *number,
@@ -152,15 +173,45 @@ fn tidy_arms(alloc: Global, arms: &[Arm]) -> Result<Vec<Arm>, NoMemory>
     Ok(all)
 }
 
-// -1 * b as -b.
-fn product(a: Box<Code>, b: Box<Code>) -> Code
-    ensures { code_tree result ≡ product (code_tree a.value) (code_tree b.value) }
+// -1 * b as -b, k * -b as -k * b, and k * 0 as 0.
+fn product(alloc: Global, a: Box<Code>, b: Box<Code>) -> Result<Code, NoMemory>
+    ensures { IfOk result (λ new. code_tree new ≡ product (code_tree a.value) (code_tree b.value)) }
 {
     if is_minus_one(&a) {
         drop(a);
-        Code::Neg(b)
-    } else {
-        Code::Mul(a, b)
+        return negation(alloc, b);
+    }
+    match opposite(&a) {
+        Some(k) => times(alloc, k, a, b),
+        None => Ok(Code::Mul(a, b)),
+    }
+}
+
+// k * -b as -k * b, and k * 0 as 0, where `opposite` is -k.
+fn times(alloc: Global, opposite: i128, a: Box<Code>, b: Box<Code>) -> Result<Code, NoMemory>
+    ensures { IfOk result (λ new. code_tree new ≡ times (code_tree a.value) (Some opposite) (code_tree b.value)) }
+{
+    match Box::into_inner(b) {
+        Code::Neg(part) => {
+            drop(a);
+            Ok(Code::Mul(Box::new(alloc, Code::Lit(opposite))?, part))
+        }
+        other => if is_zero(&other) {
+            drop(a);
+            Ok(other)
+        } else {
+            Ok(Code::Mul(a, Box::new(alloc, other)?))
+        },
+    }
+}
+
+// The numeral of the other sign.
+fn opposite(code: &Code) -> Option<i128>
+    ensures { result ≡ the_opposite (code_tree code.now) }
+{
+    match code {
+        Code::Lit(k) => if number_passes(*k) { None } else { Some(-*k) },
+        _ => None,
     }
 }
 
@@ -171,6 +222,119 @@ fn is_minus_one(code: &Code) -> bool
         Code::Lit(k) => *k == -1,
         _ => false,
     }
+}
+
+// -(-b) as b, and the numeral of a negated one.
+fn negation(alloc: Global, part: Box<Code>) -> Result<Code, NoMemory>
+    ensures { IfOk result (λ new. code_tree new ≡ negation (code_tree part.value)) }
+{
+    match Box::into_inner(part) {
+        Code::Neg(inner) => alone(alloc, inner),
+        Code::Lit(k) => if number_passes(k) {
+            Ok(Code::Neg(Box::new(alloc, Code::Lit(k))?))
+        } else {
+            Ok(Code::Lit(-k))
+        },
+        other => Ok(Code::Neg(Box::new(alloc, other)?)),
+    }
+}
+
+// A number by itself, as the least of it alone.
+fn alone(alloc: Global, part: Box<Code>) -> Result<Code, NoMemory>
+    ensures { IfOk result (λ new. code_tree new ≡ alone (code_tree part.value)) }
+{
+    let mut parts = Vec::new(alloc);
+    parts.push(Box::into_inner(part))?;
+    Ok(Code::Min(parts))
+}
+
+// The sum of the parts but those that are 0.
+fn sum(parts: Vec<Code>) -> Code
+    ensures { code_tree result ≡ sum_of (nonzero (code_trees parts.items)) }
+{
+    let mut parts = parts;
+    drop_zeros(&mut parts);
+    sum_of(parts)
+}
+
+fn drop_zeros(parts: &mut Vec<Code>)
+    ensures { code_trees parts.new.items ≡ nonzero (code_trees parts.old.items) }
+{
+    parts.retain(|part| !is_zero(part));
+}
+
+fn is_zero(code: &Code) -> bool
+    ensures { result ≡ is_zero (code_tree code.now) }
+{
+    match code {
+        Code::Lit(k) => *k == 0,
+        _ => false,
+    }
+}
+
+// A sum of none is 0, and of one part that part.
+fn sum_of(parts: Vec<Code>) -> Code
+    ensures { code_tree result ≡ sum_of (code_trees parts.items) }
+{
+    if parts.len() == 0 {
+        drop(parts);
+        Code::Lit(0)
+    } else if parts.len() == 1 {
+        least_of(parts)
+    } else {
+        sum_of_more(parts)
+    }
+}
+
+// A sum of numerals alone is one.
+fn sum_of_more(parts: Vec<Code>) -> Code
+    ensures { code_tree result ≡ sum_of_more (code_trees parts.items) }
+{
+    match numerals_sum(&parts) {
+        Some(k) => {
+            drop(parts);
+            Code::Lit(k)
+        }
+        None => sum_over(parts),
+    }
+}
+
+// What numerals come to, where there are no other parts and nothing on the way is past the limit.
+fn numerals_sum(parts: &[Code]) -> Option<i128>
+    ensures { result ≡ the_numerals_sum (Some (pos 0)) (code_trees parts.now) }
+{
+    let mut sum: i128 = 0;
+    for part in parts {
+        sum = plus_numeral(sum, part)?;
+    }
+    Some(sum)
+}
+
+fn plus_numeral(sum: i128, part: &Code) -> Option<i128>
+    requires { IsWithin sum }
+    ensures value { result ≡ plus_numeral sum (code_tree part.now) }
+    ensures fits { IfSome result IsWithin }
+{
+    match part {
+        Code::Lit(k) => if number_passes(*k) {
+            None
+        } else {
+            add(sum, *k)
+        },
+        _ => None,
+    }
+}
+
+fn least_of(parts: Vec<Code>) -> Code
+    ensures { code_tree result ≡ code_min (code_trees parts.items) }
+{
+    Code::Min(parts)
+}
+
+fn sum_over(parts: Vec<Code>) -> Code
+    ensures { code_tree result ≡ code_sum (code_trees parts.items) }
+{
+    Code::Sum(parts)
 }
 
 // A need that is true goes.
@@ -185,6 +349,50 @@ fn always_holds(item: &Item) -> bool
 {
     match item {
         Item::Need(Code::Truth(t)) => *t,
+        _ => false,
+    }
+}
+
+// An arm that is left at once goes, where there is another.
+fn drop_left(arms: &mut Vec<Arm>)
+    ensures { arm_trees arms.new.items ≡ entered (arm_trees arms.old.items) }
+{
+    if !are_left(arms) {
+        arms.retain(|arm| !is_left(arm));
+    }
+}
+
+fn are_left(arms: &[Arm]) -> bool
+    ensures { result ≡ are_left (arm_trees arms.now) }
+{
+    for arm in arms {
+        if !is_left(arm) {
+            return false;
+        }
+    }
+    true
+}
+
+fn is_left(arm: &Arm) -> bool
+    ensures { result ≡ is_left (arm_tree arm.now) }
+{
+    arm.bounds.len() == 0 && begins_false(&arm.items)
+}
+
+fn begins_false(items: &[Item]) -> bool
+    ensures { result ≡ begins_false (item_trees items.now) }
+{
+    match items.first() {
+        Some(item) => never_holds(item),
+        None => false,
+    }
+}
+
+fn never_holds(item: &Item) -> bool
+    ensures { result ≡ never_holds (item_tree item.now) }
+{
+    match item {
+        Item::Need(Code::Truth(t)) => !*t,
         _ => false,
     }
 }
