@@ -4,3 +4,4 @@ pub mod UnusedLaws
 pub mod SpotLaws
 mod Examples
 mod SpotExamples
+mod OrExamples

@@ -21,7 +21,7 @@ abbrev twice : ℕ → List ℕ → PartTree
 twice column name = record { start = at column; is_negative = false; factor = Some (number_lit (pos 2)); place = at column; name = name }
 
 abbrev spot : ℕ → List (List ℕ) → SpotTree
-spot column names = record { place = at column; outputs = names }
+spot column names = record { place = at column; outputs = names; ors = [] }
 
 abbrev body_of : RawTree → RawItemTree
 body_of e = item_def (record { place = at 1; name = codes "f"; params = []; results = Int ∷ []; body = e })

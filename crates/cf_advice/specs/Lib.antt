@@ -3,3 +3,5 @@ pub mod Factors
 pub mod Unused
 pub mod Spots
 pub mod SpotView
+pub mod Ors
+pub mod OrView

@@ -6,11 +6,13 @@ use Rattle.cf_tree.specs.declared.base.Place.{Place}
 use Rattle.cf_tree.specs.DefView.{RawItemTree, item_const, item_def}
 use Rattle.cf_tree.specs.Params.{names_of}
 use Rattle.cf_tree.specs.RawTree.{RawTree, raw_lit, raw_truth, raw_name, raw_set_of, raw_group, raw_tuple, raw_neg, raw_not, raw_abs, raw_binary, raw_chain, raw_min, raw_max, raw_divides, raw_div, raw_mod, raw_card, raw_call, raw_if, raw_let, raw_choose, raw_match, RawTrees, no_raws, raw_more, RawArmTree, RawArmTrees, no_raw_arms, raw_arm, raw_arm_more, NumberTree, PartTree}
+use Rattle.cf_advice.specs.Ors.{OrTree, ors_of}
 
--- a place, and the names of the outputs: of a choose, or of a pattern the variables; a match has none
+-- a place, and the names of the outputs: of a choose, or of a pattern the variables; a match has none. Of a choose the `||` of its relation, too
 pub record SpotTree : Type 0 where
   pub place : Place
   pub outputs : List (List ℕ)
+  pub ors : List OrTree
 
 -- ---- patterns
 abbrev pub is_among : List (List ℕ) → List ℕ → Bool
@@ -29,7 +31,7 @@ variables cs (x ∷ xs) = if is_bound (is_among cs x.name) x.factor then x.name 
 -- a pattern without variables has no number
 abbrev pub spot_of : Place → List (List ℕ) → List SpotTree
 spot_of p [] = []
-spot_of p (x ∷ xs) = record { place = p; outputs = x ∷ xs } ∷ []
+spot_of p (x ∷ xs) = record { place = p; outputs = x ∷ xs; ors = [] } ∷ []
 
 abbrev pub pattern_spot : List (List ℕ) → List PartTree → List SpotTree
 pattern_spot cs [] = []
@@ -59,8 +61,8 @@ abbrev mutual
   spots_in cs (raw_call p f es) = spots_among cs es
   spots_in cs (raw_if p t a b) = spots_in cs t ++ spots_in cs a ++ spots_in cs b
   spots_in cs (raw_let p xs places a b) = spots_in cs a ++ spots_in cs b
-  spots_in cs (raw_choose p outputs hidden given r aim) = record { place = p; outputs = names_of outputs } ∷ []
-  spots_in cs (raw_match p a arms) = record { place = p; outputs = [] } ∷ spots_in cs a ++ spots_in_arms cs arms
+  spots_in cs (raw_choose p outputs hidden given r aim) = record { place = p; outputs = names_of outputs; ors = ors_of outputs hidden given r } ∷ []
+  spots_in cs (raw_match p a arms) = record { place = p; outputs = []; ors = [] } ∷ spots_in cs a ++ spots_in_arms cs arms
 
   pub spots_among : List (List ℕ) → RawTrees → List SpotTree
   spots_among cs no_raws = []

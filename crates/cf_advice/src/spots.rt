@@ -2,20 +2,25 @@
 ghost use Rattle.std.specs.Prelude.{◌≡◌, ◌++◌, ◌∷◌, [], if◌then◌else◌, map, IfOk, OnOk};
 ghost use Rattle.cf_tree.specs.DefView.{program_tree, raw_item_tree};
 ghost use Rattle.cf_tree.specs.Params.{names_of as the_names_of};
-ghost use Rattle.cf_tree.specs.RawView.{factor_tree, part_trees, raw_arm_tree, raw_arm_trees, raw_tree, raw_trees};
+ghost use Rattle.cf_tree.specs.RawView.{factor_tree, given_tree, part_trees, raw_arm_tree, raw_arm_trees, raw_tree, raw_trees};
+ghost use Rattle.cf_advice.specs.Ors.{ors_of as the_ors_of};
 ghost use Rattle.cf_advice.specs.Spots.{is_among as the_is_among, is_bound as the_is_bound, pattern_spot, put_by, spot_of, spots_among, spots_behind, spots_in};
 ghost use Rattle.cf_advice.specs.Spots.{spots_in_arm, spots_in_arms, spots_of as the_spots_of, variables as the_variables};
 ghost use Rattle.cf_advice.specs.SpotView.{spot_tree};
 
-use cf_tree::{NoMemory, Number, Param, Part, Place, Program, Raw, RawArm, RawItem, RawNode, Text};
+use crate::ors::{Or, ors_of};
+use cf_tree::{
+    NoMemory, Number, Param, Part, Place, Program, Raw, RawArm, RawGiven, RawItem, RawNode, Text,
+};
 use std::alloc::Global;
 
 /// A place, and the names of the outputs of what stands there: of a choose, or of a pattern its variables. A match has
-/// none.
+/// none. Of a choose also the `||` of its relation.
 #[derive(Drop)]
 pub struct Spot {
     pub place: Place,
     pub outputs: Vec<Text>,
+    pub ors: Vec<Or>,
 }
 
 /// What stands at the numbers of the chooses, the matches and the patterns with variables, from 1 on. In the relation of
@@ -101,7 +106,13 @@ fn put_spots(
             put_spots(alloc, out, constants, body)?;
             Ok(())
         }
-        RawNode::Choose { outputs, .. } => put_choose(alloc, out, raw.place, outputs),
+        RawNode::Choose {
+            outputs,
+            hidden,
+            given,
+            rel,
+            aim: _,
+        } => put_choose(alloc, out, raw.place, outputs, hidden, given, rel),
         RawNode::Match { of, arms } => {
             put_match(alloc, out, raw.place)?;
             put_spots(alloc, out, constants, of)?;
@@ -161,20 +172,37 @@ fn put_choose(
     out: &mut Vec<Spot>,
     place: Place,
     outputs: &[Param],
+    hidden: &[Param],
+    given: &RawGiven,
+    rel: &Raw,
 ) -> Result<(), NoMemory>
     ensures { OnOk result (map spot_tree out.new.items
-        ≡ map spot_tree out.old.items ++ (record { place = place; outputs = the_names_of outputs.now }) ∷ []) }
+        ≡ map spot_tree out.old.items ++ (record {
+          place = place;
+          outputs = the_names_of outputs.now;
+          ors = the_ors_of outputs.now hidden.now (given_tree given.now) (raw_tree rel.now);
+        }) ∷ []) }
 {
+    let ors = ors_of(alloc, outputs, hidden, given, rel)?;
     let outputs = names_of(alloc, outputs)?;
-    out.push(Spot { place, outputs })?;
+    out.push(Spot {
+        place,
+        outputs,
+        ors,
+    })?;
     Ok(())
 }
 
 fn put_match(alloc: Global, out: &mut Vec<Spot>, place: Place) -> Result<(), NoMemory>
-    ensures { OnOk result (map spot_tree out.new.items ≡ map spot_tree out.old.items ++ (record { place = place; outputs = [] }) ∷ []) }
+    ensures { OnOk result (map spot_tree out.new.items ≡ map spot_tree out.old.items ++ (record { place = place; outputs = []; ors = [] }) ∷ []) }
 {
     let outputs = Vec::new(alloc);
-    out.push(Spot { place, outputs })?;
+    let ors = Vec::new(alloc);
+    out.push(Spot {
+        place,
+        outputs,
+        ors,
+    })?;
     Ok(())
 }
 
@@ -191,20 +219,30 @@ fn put_pattern(
         None => Ok(()),
         Some((part, _)) => {
             let names = variables(alloc, constants, parts)?;
-            put_variables(out, part.start, names)
+            put_variables(alloc, out, part.start, names)
         }
     }
 }
 
 // Adds a pattern with these variables, if there are any.
-fn put_variables(out: &mut Vec<Spot>, place: Place, names: Vec<Text>) -> Result<(), NoMemory>
+fn put_variables(
+    alloc: Global,
+    out: &mut Vec<Spot>,
+    place: Place,
+    names: Vec<Text>,
+) -> Result<(), NoMemory>
     ensures { OnOk result (map spot_tree out.new.items ≡ map spot_tree out.old.items ++ spot_of place names.items) }
 {
     if names.is_empty() {
         return Ok(());
     }
     let outputs = names;
-    out.push(Spot { place, outputs })?;
+    let ors = Vec::new(alloc);
+    out.push(Spot {
+        place,
+        outputs,
+        ors,
+    })?;
     Ok(())
 }
 

@@ -8,9 +8,11 @@ use Rattle.cf_tree.specs.declared.base.Edition.{Edition}
 use Rattle.cf_tree.specs.declared.base.Edition.TheVariants.{Two, Three}
 use Rattle.cf_tree.specs.declared.base.Place.{Place}
 use Rattle.cf_tree.specs.declared.raw.Param.{Param}
-use Rattle.cf_tree.specs.RelTree.{RelTree}
+use Rattle.cf_tree.specs.RelTree.{RelTree, rel_and}
 use Rattle.cf_tree.specs.RelView.{rel_tree}
 use Rattle.cf_tree.specs.Values.{Value}
+use Rattle.cf_advice.specs.Ors.{OrTree, part_at}
+use Rattle.cf_advice.specs.declared.ors.Side.{Side}
 use Rattle.cf_form.specs.Told.{Allows, HoldsCondition, ToldBranch}
 use Rattle.cf_help.specs.Lines.{shown}
 use Rattle.cf_help.specs.Messages.{heading}
@@ -25,9 +27,9 @@ use Rattle.cf_warn.specs.Questions.{parameters}
 use Rattle.cf_warn.specs.declared.answer.ExistenceAnswer.{ExistenceAnswer}
 use Rattle.cf_warn.specs.declared.answer.UniquenessAnswer.{UniquenessAnswer}
 use Rattle.cf_answer.specs.Checking.{AddsAsked, AddsBehindArm, AddsBeside, AddsBesideArm}
-use Rattle.cf_answer.specs.Checks.{AllSaid, AreBehindArm, AreBehindMatch, AreUnboundedLines, asked, never, no_inputs, existence_text, names_at, never_text, no_inputs_text, tuples_line, unbounded_line, uniqueness_text, unreached_line, unused_line, unused_lines}
-use Rattle.cf_answer.specs.Fronts.{File, output_names, place_text}
-use Rattle.cf_answer.specs.Tells.{HasNoInputs, HasNone, IsInput, TellsExistence, TellsNever, TellsNoInputs, TellsUniqueness, arm_asked, arm_branch, most_tuples}
+use Rattle.cf_answer.specs.Checks.{AllSaid, AreBehindArm, AreBehindMatch, AreBesideLines, AreBranchLines, AreOrLines, AreUnboundedLines, branch_line, branch_text, asked, never, no_inputs, existence_text, names_at, never_text, no_inputs_text, tuples_line, unbounded_line, uniqueness_text, unreached_line, unused_line, unused_lines}
+use Rattle.cf_answer.specs.Fronts.{File, Notes, output_names, place_text}
+use Rattle.cf_answer.specs.Tells.{HasNoInputs, HasNone, IsInput, NeverHoldsAt, TellsExistence, TellsNever, TellsNoInputs, TellsUniqueness, arm_asked, arm_branch, most_tuples}
 use Rattle.cf_answer.specs.Texts.{numbered_line}
 use Rattle.cf_answer.specs.ToldChecks.{Asked}
 use Rattle.cf_answer.specs.Unmet.{answered, nothing_unmet, one_no, unmet_existence, unmet_uniqueness}
@@ -36,6 +38,10 @@ use Rattle.cf_answer.specs.declared.unmet.Answered.{Answered}
 -- ---- no inputs, and no outputs
 pub no_inputs_in : (a : Asked) (b : ToldBranch) (p : RelTree) → b.given ≡ Some p → NeverHolds [] a.scope p → HasNoInputs a b
 no_inputs_in a b p is n env i = n.never [] env tt i.bases (subst (λ g. Allows g env) is i.allowed)
+
+pub never_at : (a : Asked) (b : ToldBranch) (path : List Side) (part : RelTree) → b.truths ≡ [] → part_at path b.relation ≡ Some part →
+    NeverHolds a.scope a.outputs (rel_and b.relation part) → NeverHoldsAt a path b
+never_at a b path part none at n = (none, part, at, λ env xs i s h. n.never env xs i.bases s.0 (s.1, h))
 
 -- no inputs of a branch have outputs
 abbrev pub never_in : Asked → ToldBranch → Type 0
@@ -72,6 +78,19 @@ pub said_end : {X : Type 0} (Is : ℕ → X → Type 0) (line : ℕ → X → Li
 said_end Is line k left text Told none before =
     subst Told (append-nil text) (before [] (subst (λ v. AllSaid Is line k v []) (sym none) refl))
 
+-- the lines on one `||` more behind those before
+pub ors_on : (a : Asked) (bs : List ToldBranch) (n : ℕ) (left : List OrTree) (o : OrTree) (os : List OrTree) (old first new : List ℕ)
+    (Told : List ℕ → Type 0) → left ≡ o ∷ os → AreBranchLines a bs n o first → new ≡ old ++ first →
+    ((more : List ℕ) → AreOrLines a bs n left more → Told (old ++ more)) → (more : List ℕ) → AreOrLines a bs n os more → Told (new ++ more)
+ors_on a bs n left o os old first new Told opened are same before more rest =
+    let all : AreOrLines a bs n (o ∷ os) (first ++ more) = (first, more, refl, are, rest) in
+    let here = before (first ++ more) (subst (λ v. AreOrLines a bs n v (first ++ more)) (sym opened) all) in
+    subst Told (sym (ap (λ t. t ++ more) same ∙ append_assoc old first more)) here
+
+pub ors_end : (a : Asked) (bs : List ToldBranch) (n : ℕ) (left : List OrTree) (text : List ℕ) (Told : List ℕ → Type 0) → left ≡ [] →
+    ((more : List ℕ) → AreOrLines a bs n left more → Told (text ++ more)) → Told text
+ors_end a bs n left text Told none before = subst Told (append-nil text) (before [] (subst (λ v. AreOrLines a bs n v []) (sym none) refl))
+
 -- ---- texts
 head_words : (o h d w m : List ℕ) → (((o ++ concat (h ∷ d ∷ codes ": " ∷ [])) ++ w) ++ m) ++ 10 ∷ [] ≡
     o ++ concat (h ∷ d ∷ codes ": " ∷ concat (w ∷ m ∷ []) ∷ codes "\n" ∷ [])
@@ -106,6 +125,21 @@ module _ (old a b c new head words : List ℕ) where
       rw (last, third, second, first, head_is, place_is, words_is, bytes_is)
       (param_words old (heading name (Some p.place)) (codes "nothing uses parameter ") p.name)
 
+-- the words on a branch, piece by piece
+seven_words : (o a k l c : List ℕ) → (((((((o ++ a) ++ k) ++ codes " of || at ") ++ l) ++ 58 ∷ []) ++ c) ++ codes " never holds") ≡
+    o ++ concat (a ∷ k ∷ codes " of || at " ∷ l ∷ codes ":" ∷ c ∷ codes " never holds" ∷ [])
+seven_words o a k l c = simp append_assoc refl
+
+pub branch_words : (old a b c d e f new w at last : List ℕ) (p : Place) (k : ℕ) → w ≡ codes "branch " → at ≡ codes " of || at " →
+    last ≡ codes " never holds" → a ≡ old ++ w → b ≡ a ++ decimal (k + 1) → c ≡ b ++ at → d ≡ c ++ decimal p.line → e ≡ d ++ 58 ∷ [] →
+    f ≡ e ++ decimal p.column → new ≡ f ++ last → new ≡ old ++ branch_text p k
+branch_words old a b c d e f new w at last p k w_is at_is last_is one two three four five six seven =
+    rw (seven, six, five, four, three, two, one, last_is, at_is, w_is) (seven_words old (codes "branch ") (decimal (k + 1)) (decimal p.line) (decimal p.column))
+
+pub branch_told : (old words new : List ℕ) (tells : Bool) (n k : ℕ) (p : Place) → tells ≡ true → words ≡ branch_text p k →
+    new ≡ old ++ numbered_line n words → new ≡ old ++ (if tells then branch_line n p k else [])
+branch_told old words new tells n k p told is text = rw told (text ∙ ap (λ w. old ++ numbered_line n w) is)
+
 -- a line more on the parameters, which are seen by f
 pub unused_on : {X : Type 0} (name : List ℕ) (f : X → Param) (xs : List X) (i : ℕ) (x : X) (old new all : List ℕ) → i < length xs → x ≡ get_or xs i x →
     new ≡ old ++ unused_line name (f x) → old ++ unused_lines name (map f (drop i xs)) ≡ all → new ++ unused_lines name (map f (drop (i + 1) xs)) ≡ all
@@ -125,23 +159,23 @@ pub most_more : (most here more : ℕ) → max (max most here) more ≡ max most
 most_more most here more = omega arith
 
 -- ---- the lines of a choose in its branches
-pub beside_added : (a : Asked) (bs : List ToldBranch) (names : List (List ℕ)) (n : ℕ) (lines : List ℕ) (tuples : ℕ) (old mid new : List ℕ) →
-    AreUnboundedLines a bs n names lines → mid ≡ old ++ lines → tuples ≡ most_tuples a bs → new ≡ mid ++ tuples_line n tuples → AddsBeside a bs names n old new
-beside_added a bs names n lines tuples old mid new are first is second = (
-    lines,
-    are,
-    second ∙ ap (λ t. mid ++ tuples_line n t) is ∙ ap (λ t. t ++ tuples_line n (most_tuples a bs)) first
-        ∙ append_assoc old lines (tuples_line n (most_tuples a bs)),
-  )
+pub beside_added : (a : Asked) (bs : List ToldBranch) (notes : Notes) (n : ℕ) (lines : List ℕ) (tuples : ℕ) (old mid new : List ℕ) →
+    AreBesideLines a bs n notes lines → mid ≡ old ++ lines → tuples ≡ most_tuples a bs → new ≡ mid ++ tuples_line n tuples → AddsBeside a bs notes n old new
+beside_added a bs notes n lines tuples old mid new are first is second = (
+  lines,
+  are,
+  second ∙ ap (λ t. mid ++ tuples_line n t) is ∙ ap (λ t. t ++ tuples_line n (most_tuples a bs)) first
+      ∙ append_assoc old lines (tuples_line n (most_tuples a bs)),
+)
 
-module _ (s : SolvedChoose) (a : Asked) (bs : List ToldBranch) (names : List (List ℕ)) where
+module _ (s : SolvedChoose) (a : Asked) (bs : List ToldBranch) (notes : Notes) where
   abbrev variables : List (List ℕ)
   variables = names_at (names_of s.choose.scope.now) a.levels
 
   pub asked_lines : (old first second new : List ℕ) (e : ExistenceAnswer) (u : UniquenessAnswer) → TellsExistence a bs e →
       (All HoldsCondition bs → TellsUniqueness a bs u) → first ≡ old ++ numbered_line s.choose.number (existence_text variables e) →
-      second ≡ first ++ numbered_line s.choose.number (uniqueness_text variables u) → AddsBeside a bs names s.choose.number second new →
-      AddsAsked s a bs names old new (answered (unmet_existence e) (unmet_uniqueness u))
+      second ≡ first ++ numbered_line s.choose.number (uniqueness_text variables u) → AddsBeside a bs notes s.choose.number second new →
+      AddsAsked s a bs notes old new (answered (unmet_existence e) (unmet_uniqueness u))
   asked_lines old first second new e u e_is u_is one two (more, are, last) conditions =
       let tuples = tuples_line s.choose.number (most_tuples a bs) in
       let exists = numbered_line s.choose.number (existence_text variables e) in
@@ -155,7 +189,7 @@ module _ (s : SolvedChoose) (a : Asked) (bs : List ToldBranch) (names : List (Li
       joined v w x y z = simp append_assoc refl
 
   pub never_line : (old words new : List ℕ) (b : Answered) → TellsNever a bs → words ≡ never_text → b ≡ answered one_no nothing_unmet →
-      new ≡ old ++ numbered_line s.choose.number words → AddsAsked s a bs names old new b
+      new ≡ old ++ numbered_line s.choose.number words → AddsAsked s a bs notes old new b
   never_line old words new b h told is text conditions = (
     numbered_line s.choose.number never_text,
     text ∙ ap (λ w. old ++ numbered_line s.choose.number w) told,
@@ -163,7 +197,7 @@ module _ (s : SolvedChoose) (a : Asked) (bs : List ToldBranch) (names : List (Li
   )
 
   pub no_inputs_line : (old words new : List ℕ) (b : Answered) → TellsNoInputs a bs → words ≡ no_inputs_text → b ≡ answered one_no nothing_unmet →
-      new ≡ old ++ numbered_line s.choose.number words → AddsAsked s a bs names old new b
+      new ≡ old ++ numbered_line s.choose.number words → AddsAsked s a bs notes old new b
   no_inputs_line old words new b h told is text conditions = (
     numbered_line s.choose.number no_inputs_text,
     text ∙ ap (λ w. old ++ numbered_line s.choose.number w) told,

@@ -1,5 +1,5 @@
 -- Worked examples of the lines of `check`.
-use Rattle.std.proofs.Common.{◌≡◌, ◌≤◌, ap, refl, sym, subst, Ok, Err, Some, None, ℕ, zero, suc, pos, negsuc, false, nat_lt, List, [], ◌∷◌, Vec, Global, arith, codes}
+use Rattle.std.proofs.Common.{◌≡◌, ◌≤◌, ap, refl, sym, subst, Ok, Err, Some, None, ℕ, zero, suc, pos, negsuc, true, false, nat_lt, List, [], ◌∷◌, Vec, Global, arith, codes}
 use Rattle.std.proofs.lemmas.Int.{ints}
 use Rattle.std.specs.Fmt.{digits}
 use Rattle.std.specs.Prelude.{Contains}
@@ -7,7 +7,8 @@ use Rattle.std.proofs.lemmas.List.Elements.{All-nil, All-cons}
 use Rattle.cf_tree.specs.declared.base.Base.TheVariants.{Int, Set}
 use Rattle.cf_tree.specs.declared.base.Edition.TheVariants.{Two, Three}
 use Rattle.cf_tree.specs.declared.base.Order.TheVariants.{Eq, Ge}
-use Rattle.cf_tree.specs.RelTree.{RelTree, term_lit, term_var, term_add, term_mul, set_var, rel_true, rel_false, rel_compare, rel_subset, rel_and}
+use Rattle.cf_tree.specs.declared.base.Place.{Place}
+use Rattle.cf_tree.specs.RelTree.{RelTree, term_lit, term_var, term_add, term_mul, set_var, rel_true, rel_false, rel_compare, rel_subset, rel_and, rel_or}
 use Rattle.cf_linear.specs.declared.refusal.LimitKind.TheVariants as kind
 use Rattle.cf_linear.specs.declared.refusal.Refusal.TheVariants as refusal
 use Rattle.cf_match.specs.Classes.{IsIn}
@@ -23,11 +24,12 @@ use Rattle.cf_warn.specs.declared.answer.UniquenessAnswer.TheVariants as uniquen
 use Rattle.cf_warn.specs.declared.coverage.Cover.TheVariants as cover
 use Rattle.cf_warn.specs.Covers.{IsCover}
 use Rattle.cf_warn.specs.Verdicts.{IsExistence, IsUniqueness}
+use Rattle.cf_advice.specs.declared.ors.Side.TheVariants.{LeftOfOr, RightOfOr}
 use Rattle.cf_form.specs.Told.{ToldChoose}
 use Rattle.cf_warn.specs.Missing.{tuple_count}
-use Rattle.cf_answer.specs.Checks.{existence_line, uniqueness_line, cover_line, tuples_line, unbounded_line, unreached_line, unused_lines, AreAskedLines, never, no_inputs, AreUnreachedLines, IsOwn, AreLines, of_choose, of_arm, of_match}
-use Rattle.cf_answer.specs.Fronts.{File, output_names, written_in}
-use Rattle.cf_answer.specs.Tells.{HasNoInputs, HasNone, TellsNever, TellsNoInputs, TellsUnreached}
+use Rattle.cf_answer.specs.Checks.{existence_line, uniqueness_line, cover_line, tuples_line, unbounded_line, unreached_line, unused_lines, AreAskedLines, never, no_inputs, AreBesideLines, branch_line, AreUnreachedLines, IsOwn, AreLines, of_choose, of_arm, of_match}
+use Rattle.cf_answer.specs.Fronts.{File, notes_at, output_names, written_in}
+use Rattle.cf_answer.specs.Tells.{HasNoInputs, HasNone, NeverHoldsAt, TellsNever, TellsNeverHolds, TellsNoInputs, TellsUnreached}
 use Rattle.cf_answer.specs.ToldChecks.{Asked}
 use Rattle.cf_answer.specs.Texts.{fault_line}
 use Rattle.cf_answer.specs.Unmet.{answered, judged, nothing_answered, nothing_unmet, one_no, one_undecided, unmet_for, with_answered}
@@ -164,7 +166,7 @@ abbrev in_three : File
 in_three = record {
   edition = Three;
   name = codes "f";
-  spots = record { place = record { line = 3; column = 5 }; outputs = [] } ∷ record { place = record { line = 4; column = 7 }; outputs = codes "i" ∷ [] } ∷ [];
+  spots = record { place = record { line = 3; column = 5 }; outputs = []; ors = [] } ∷ record { place = record { line = 4; column = 7 }; outputs = codes "i" ∷ []; ors = [] } ∷ [];
 }
 
 none_unreached : AreUnreachedLines 1 (Residue (pos 2) (pos 0) ∷ Point (pos 3) ∷ []) []
@@ -230,6 +232,9 @@ written_of_three = refl
 named_variable : output_names in_three 2 ≡ codes "i" ∷ []
 named_variable = refl
 
+noted_variable : notes_at in_three 2 ≡ record { outputs = codes "i" ∷ []; ors = [] }
+noted_variable = refl
+
 -- ---- lines beside the answers
 unbounded : unbounded_line 2 (codes "i") ≡ codes "choose 2: nothing bounds output i\n"
 unfolding digits
@@ -269,14 +274,59 @@ no_inputs_at_all env i = let h = i.allowed in omega (arith, ints, h)
 never_at_all : HasNone asked_nothing (record { truths = []; relation = never_true; given = None }) []
 never_at_all xs s = let h = s.1 in omega (arith, ints, h)
 
+-- the second branch has the number 1 here, and is told as branch 2
+abbrev second_or : Place
+second_or = record { line = 2; column = 88 }
+
+dead_branch : branch_line 1 second_or 1 ≡ codes "choose 1: branch 2 of || at 2:88 never holds\n"
+unfolding digits
+dead_branch = refl
+
+-- nothing is noted where there is no choose
+noted_nowhere : notes_at in_two 1 ≡ record { outputs = []; ors = [] }
+noted_nowhere = refl
+
+-- of `x == 0 || 0 >= 1` the second branch never holds
+abbrev zero_or_never : RelTree
+zero_or_never = rel_or (rel_compare Eq (term_var 0) (term_lit (pos 0))) never_true
+
+second_never : NeverHoldsAt asked_nothing (RightOfOr ∷ []) (record { truths = []; relation = zero_or_never; given = None })
+second_never = (refl, never_true, refl, λ env xs i s h. omega (arith, ints, h))
+
+-- only this branch is told, behind the line on the output
+beside_of_both : TellsNeverHolds asked_nothing (record { truths = []; relation = zero_or_never; given = None } ∷ []) (RightOfOr ∷ []) →
+    AreBesideLines asked_nothing (record { truths = []; relation = zero_or_never; given = None } ∷ []) 1
+    (record { outputs = codes "x" ∷ []; ors = (record { place = second_or; branches = (LeftOfOr ∷ []) ∷ (RightOfOr ∷ []) ∷ [] }) ∷ [] })
+    (codes "choose 1: branch 2 of || at 2:88 never holds\n")
+unfolding digits
+beside_of_both h = (
+  [],
+  codes "choose 1: branch 2 of || at 2:88 never holds\n",
+  refl,
+  (false, (λ e. cc e), [], refl, refl),
+  (
+    codes "choose 1: branch 2 of || at 2:88 never holds\n",
+    [],
+    refl,
+    (
+      false,
+      (λ e. cc e),
+      codes "choose 1: branch 2 of || at 2:88 never holds\n",
+      refl,
+      (true, (λ e. h), [], refl, refl),
+    ),
+    refl,
+  ),
+)
+
 -- the lines of a choose that never has outputs: one, which is a no
 only_line : (c : ToldChoose) → TellsNever asked_nothing c.branches →
-    AreAskedLines 2 [] asked_nothing c.branches (codes "x" ∷ []) (codes "choose 2: no outputs for any inputs\n") (answered one_no nothing_unmet)
+    AreAskedLines 2 [] asked_nothing c.branches (record { outputs = codes "x" ∷ []; ors = [] }) (codes "choose 2: no outputs for any inputs\n") (answered one_no nothing_unmet)
 unfolding digits
 only_line c h = never h
 
 no_inputs_line : (c : ToldChoose) → TellsNoInputs asked_nothing c.branches →
-    AreAskedLines 2 [] asked_nothing c.branches (codes "x" ∷ []) (codes "choose 2: given holds for no inputs\n") (answered one_no nothing_unmet)
+    AreAskedLines 2 [] asked_nothing c.branches (record { outputs = codes "x" ∷ []; ors = [] }) (codes "choose 2: given holds for no inputs\n") (answered one_no nothing_unmet)
 unfolding digits
 no_inputs_line c h = no_inputs h
 

@@ -22,7 +22,7 @@ use Rattle.cf_warn.specs.declared.answer.ExistenceAnswer.{ExistenceAnswer}
 use Rattle.cf_warn.specs.declared.answer.UniquenessAnswer.{UniquenessAnswer}
 use Rattle.cf_answer.specs.Checks.{IsMatch, IsArm, IsOwn, AreAskedLines, AreBehindMatch, AreLines, of_choose, of_told, of_arm, of_match, AreLinesBy, IsCheckBehind, AreChecksBehind, asked_of, cover_line, existence_line, existence_text, names_at, told_names, uniqueness_line, uniqueness_text}
 use Rattle.cf_answer.specs.Checking.{AddsAsked, AddsBehindArm, AddsCheck, AddsCheckBehind, AddsTold, AddsCover, AddsExistence, AddsUniqueness, AddsWritten}
-use Rattle.cf_answer.specs.Fronts.{File, output_names, written_in}
+use Rattle.cf_answer.specs.Fronts.{File, Notes, notes_at, output_names, written_in}
 use Rattle.cf_answer.specs.ToldChecks.{Asked, named_levels, told_of, is_later_branch}
 use Rattle.cf_answer.specs.Unmet.{answered, nothing_answered, nothing_unmet, with_answered, with_unmet}
 use Rattle.cf_answer.specs.declared.unmet.Answered.{Answered}
@@ -74,20 +74,20 @@ module _ (s : SolvedChoose) (c : ToldChoose) (levels : List ℕ) (are : levels �
 
   -- what is added, in the words of the code
   pub asked_added : (scope outputs shown : List Base) (ls : List ℕ) (bs : List ToldBranch) → scope ≡ s.solved.scope.items →
-      outputs ≡ s.solved.outputs.items → shown ≡ c.outputs → ls ≡ levels → bs ≡ c.branches → (names : List (List ℕ)) (old new : List ℕ) (a : Answered) →
-      AddsAsked s (record { scope = scope; outputs = outputs; shown = shown; levels = ls }) bs names old new a → AddsTold s c names old new a
-  asked_added scope outputs shown ls bs same_scope same_outputs same_shown same_levels same_branches names old new a adds q h conditions =
+      outputs ≡ s.solved.outputs.items → shown ≡ c.outputs → ls ≡ levels → bs ≡ c.branches → (notes : Notes) (old new : List ℕ) (a : Answered) →
+      AddsAsked s (record { scope = scope; outputs = outputs; shown = shown; levels = ls }) bs notes old new a → AddsTold s c notes old new a
+  asked_added scope outputs shown ls bs same_scope same_outputs same_shown same_levels same_branches notes old new a adds q h conditions =
       let asked : Asked = record { scope = scope; outputs = outputs; shown = shown; levels = ls } in
       let same : asked ≡ given = rw (same_scope, same_outputs, same_shown, same_levels) refl in
       let (more, text, lines) = adds (subst (λ v. All HoldsCondition v) (sym same_branches) conditions) in
       let words = names_of s.choose.scope.now in
-      let here = subst (λ x. AreAskedLines s.choose.number (names_at words x.levels) x bs names more a) same lines in
-      let there = subst (λ v. AreAskedLines s.choose.number (names_at words levels) given v names more a) same_branches here in (
+      let here = subst (λ x. AreAskedLines s.choose.number (names_at words x.levels) x bs notes more a) same lines in
+      let there = subst (λ v. AreAskedLines s.choose.number (names_at words levels) given v notes more a) same_branches here in (
         more,
         text,
-        subst (λ n. AreAskedLines n (told_names q c) (asked_of q c) c.branches names more a) (solved_number q s h)
-            (subst (λ v. AreAskedLines s.choose.number v (asked_of q c) c.branches names more a) (names_are q h)
-            (subst (λ x. AreAskedLines s.choose.number (names_at words levels) x c.branches names more a) (given_is q h) there)),
+        subst (λ n. AreAskedLines n (told_names q c) (asked_of q c) c.branches notes more a) (solved_number q s h)
+            (subst (λ v. AreAskedLines s.choose.number v (asked_of q c) c.branches notes more a) (names_are q h)
+            (subst (λ x. AreAskedLines s.choose.number (names_at words levels) x c.branches notes more a) (given_is q h) there)),
       )
 
 -- the conditions of a choose that is told of
@@ -118,15 +118,15 @@ module _ (file : File) (matches : List MatchTree) (told : List ToldChoose) (s : 
         (existence_of q s h e e_is) (uniqueness_of q s h u u_is)),
   )
 
-  pub told_checked : (c : ToldChoose) (names : List (List ℕ)) (new : List ℕ) (a : Answered) → names ≡ output_names file s.choose.number →
-      AddsTold s c names old new a → IsOwn matches s.choose.number → told_of told s.choose.number ≡ Some c → AddsCheck file matches told s old new a
-  told_checked c names new a named adds own is q h conditions =
+  pub told_checked : (c : ToldChoose) (notes : Notes) (new : List ℕ) (a : Answered) → notes ≡ notes_at file s.choose.number →
+      AddsTold s c notes old new a → IsOwn matches s.choose.number → told_of told s.choose.number ≡ Some c → AddsCheck file matches told s old new a
+  told_checked c notes new a named adds own is q h conditions =
       let (more, text, lines) = adds q h (conditions_of told s.choose.number c is conditions) in
       let here = subst (λ v. AreAskedLines q.number (told_names q c) (asked_of q c) c.branches v more a) named lines in (
         more,
         text,
         of_told (subst (IsOwn matches) (solved_number q s h) own) c (subst (λ n. told_of told n ≡ Some c) (solved_number q s h) is) more a
-            (subst (λ n. AreAskedLines q.number (told_names q c) (asked_of q c) c.branches (output_names file n) more a) (solved_number q s h) here),
+            (subst (λ n. AreAskedLines q.number (told_names q c) (asked_of q c) c.branches (notes_at file n) more a) (solved_number q s h) here),
       )
 
   pub arm_checked : (levels mid new : List ℕ) (unique : Unmet) → levels ≡ parameters s.solved.scope.items (rel_tree s.solved.rel) →

@@ -30,8 +30,8 @@ use Rattle.cf_warn.specs.declared.answer.ExistenceAnswer.TheVariants as existenc
 use Rattle.cf_warn.specs.declared.answer.UniquenessAnswer.{UniquenessAnswer}
 use Rattle.cf_warn.specs.declared.answer.UniquenessAnswer.TheVariants as uniqueness
 use Rattle.cf_warn.specs.declared.coverage.Cover.{Cover}
-use Rattle.cf_answer.specs.Checks.{IsMatch, IsArm, IsOwn, AreAskedLines, AreBehindArm, AreLines, AreLinesBy, AreUnboundedLines, IsCheckBehind, asked_of, cover_line, existence_text, names_at, told_names, tuples_line, uniqueness_text}
-use Rattle.cf_answer.specs.Fronts.{File, output_names}
+use Rattle.cf_answer.specs.Checks.{IsMatch, IsArm, IsOwn, AreAskedLines, AreBehindArm, AreLines, AreLinesBy, AreBesideLines, IsCheckBehind, asked_of, cover_line, existence_text, names_at, told_names, tuples_line, uniqueness_text}
+use Rattle.cf_answer.specs.Fronts.{File, Notes, output_names}
 use Rattle.cf_answer.specs.Owed.{AreChecks}
 use Rattle.cf_answer.specs.Sources.{IsTypedSource}
 use Rattle.cf_answer.specs.Tells.{TellsCover, most_tuples}
@@ -93,21 +93,21 @@ AddsWritten file matches told before s old new a =
     (q : ChooseTree) → IsSolved q s → HoldConditions told → (more : List ℕ) × (new ≡ old ++ more) × IsCheckBehind file matches told before q more a
 
 -- the lines beside the answers on choose number n were added
-abbrev pub AddsBeside : Asked → List ToldBranch → List (List ℕ) → ℕ → List ℕ → List ℕ → Type 0
-AddsBeside a bs names n old new =
-    (more : List ℕ) × AreUnboundedLines a bs n names more × (new ≡ old ++ (more ++ tuples_line n (most_tuples a bs)))
+abbrev pub AddsBeside : Asked → List ToldBranch → Notes → ℕ → List ℕ → List ℕ → Type 0
+AddsBeside a bs notes n old new =
+    (more : List ℕ) × AreBesideLines a bs n notes more × (new ≡ old ++ (more ++ tuples_line n (most_tuples a bs)))
 
 -- the lines of a choose in these branches were added
-abbrev pub AddsAsked : SolvedChoose → Asked → List ToldBranch → List (List ℕ) → List ℕ → List ℕ → Answered → Type 0
-AddsAsked s a bs names old new ans =
+abbrev pub AddsAsked : SolvedChoose → Asked → List ToldBranch → Notes → List ℕ → List ℕ → Answered → Type 0
+AddsAsked s a bs notes old new ans =
     All HoldsCondition bs → (more : List ℕ) × (new ≡ old ++ more)
-    × AreAskedLines s.choose.number (names_at (names_of s.choose.scope.now) a.levels) a bs names more ans
+    × AreAskedLines s.choose.number (names_at (names_of s.choose.scope.now) a.levels) a bs notes more ans
 
--- the lines of a choose of which this is told, whose outputs have these names, were added
-abbrev pub AddsTold : SolvedChoose → ToldChoose → List (List ℕ) → List ℕ → List ℕ → Answered → Type 0
-AddsTold s c names old new a =
+-- the lines of a choose of which this is told, where this is noted, were added
+abbrev pub AddsTold : SolvedChoose → ToldChoose → Notes → List ℕ → List ℕ → Answered → Type 0
+AddsTold s c notes old new a =
     (q : ChooseTree) → IsSolved q s → All HoldsCondition c.branches → (more : List ℕ) × (new ≡ old ++ more)
-    × AreAskedLines q.number (told_names q c) (asked_of q c) c.branches names more a
+    × AreAskedLines q.number (told_names q c) (asked_of q c) c.branches notes more a
 
 -- what stands behind the line of an arm was added
 abbrev pub AddsBesideArm : File → SolvedChoose → List ℕ → List ℕ → Type 0

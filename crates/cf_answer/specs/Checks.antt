@@ -4,8 +4,10 @@ use Rattle.std.specs.List.{concat}
 use Rattle.std.specs.Fmt.{signed_decimal}
 use Rattle.cf_tree.specs.declared.base.Edition.{Edition}
 use Rattle.cf_tree.specs.declared.base.Edition.TheVariants.{Two, Three}
+use Rattle.cf_tree.specs.declared.base.Place.{Place}
 use Rattle.cf_tree.specs.declared.raw.Param.{Param}
 use Rattle.cf_tree.specs.Values.{Value}
+use Rattle.cf_advice.specs.Ors.{OrTree}
 use Rattle.cf_help.specs.Messages.{heading}
 use Rattle.cf_match.specs.Matches.{MatchTree}
 use Rattle.cf_match.specs.declared.class.Class.{Class}
@@ -26,8 +28,8 @@ use Rattle.cf_warn.specs.declared.answer.UniquenessAnswer.{UniquenessAnswer}
 use Rattle.cf_warn.specs.declared.answer.UniquenessAnswer.TheVariants as uniqueness
 use Rattle.cf_warn.specs.declared.coverage.Cover.{Cover}
 use Rattle.cf_warn.specs.declared.coverage.Cover.TheVariants as cover
-use Rattle.cf_answer.specs.Fronts.{File, output_names, written_in}
-use Rattle.cf_answer.specs.Tells.{TellsExistence, TellsUniqueness, TellsArm, TellsCover, TellsNoInputs, TellsNever, TellsUnbounded, TellsUnreached, arm_asked, arm_branch, most_tuples}
+use Rattle.cf_answer.specs.Fronts.{File, Notes, notes_at, output_names, written_in}
+use Rattle.cf_answer.specs.Tells.{TellsExistence, TellsUniqueness, TellsArm, TellsCover, TellsNoInputs, TellsNever, TellsNeverHolds, TellsUnbounded, TellsUnreached, arm_asked, arm_branch, most_tuples}
 use Rattle.cf_answer.specs.Texts.{numbered_line}
 use Rattle.cf_answer.specs.ToldChecks.{Asked, named_levels, told_of, is_later_branch}
 use Rattle.cf_answer.specs.Unmet.{answered, nothing_answered, nothing_unmet, one_no, unmet_cover, unmet_existence, unmet_uniqueness, with_answered}
@@ -110,6 +112,14 @@ unbounded_line n name = numbered_line n (concat (codes "nothing bounds output " 
 abbrev pub unreached_line : ℕ → ℕ → List ℕ
 unreached_line n k = concat (codes "match " ∷ decimal n ∷ codes ": no number reaches arm " ∷ decimal (k + 1) ∷ codes "\n" ∷ [])
 
+-- branch number k of the `||` of this place, counted from 0, is told by its number from 1 on
+abbrev pub branch_text : Place → ℕ → List ℕ
+branch_text p k =
+    concat (codes "branch " ∷ decimal (k + 1) ∷ codes " of || at " ∷ decimal p.line ∷ codes ":" ∷ decimal p.column ∷ codes " never holds" ∷ [])
+
+abbrev pub branch_line : ℕ → Place → ℕ → List ℕ
+branch_line n p k = numbered_line n (branch_text p k)
+
 -- of so many tuples it is told
 abbrev pub many_tuples : ℕ
 many_tuples = 10000
@@ -127,16 +137,30 @@ AllSaid Is line k (x ∷ xs) text =
 abbrev pub AreUnboundedLines : Asked → List ToldBranch → ℕ → List (List ℕ) → List ℕ → Type 0
 AreUnboundedLines a bs n names text = AllSaid (λ k name. TellsUnbounded a bs k) (λ k name. unbounded_line n name) 0 names text
 
+-- those on the branches of an `||`, and of each of these
+abbrev pub AreBranchLines : Asked → List ToldBranch → ℕ → OrTree → List ℕ → Type 0
+AreBranchLines a bs n o text = AllSaid (λ k path. TellsNeverHolds a bs path) (λ k path. branch_line n o.place k) 0 o.branches text
+
+abbrev pub AreOrLines : Asked → List ToldBranch → ℕ → List OrTree → List ℕ → Type 0
+AreOrLines a bs n [] text = text ≡ []
+AreOrLines a bs n (o ∷ os) text =
+    (first : List ℕ) × (more : List ℕ) × (text ≡ first ++ more) × AreBranchLines a bs n o first × AreOrLines a bs n os more
+
+-- those on the outputs of a choose, and behind them those on its branches
+abbrev pub AreBesideLines : Asked → List ToldBranch → ℕ → Notes → List ℕ → Type 0
+AreBesideLines a bs n notes text =
+    (outputs : List ℕ) × (ors : List ℕ) × (text ≡ outputs ++ ors) × AreUnboundedLines a bs n notes.outputs outputs × AreOrLines a bs n notes.ors ors
+
 abbrev pub AreUnreachedLines : ℕ → List Class → List ℕ → Type 0
 AreUnreachedLines n classes text = AllSaid (TellsUnreached classes) (λ k c. unreached_line n k) 0 classes text
 
--- The lines of choose number n in these branches, of which samples name variables of these names and whose outputs have these, with what they answer.
-pub data AreAskedLines (n : ℕ) (variables : List (List ℕ)) (a : Asked) (bs : List ToldBranch) (names : List (List ℕ)) : List ℕ → Answered → Type 0 where
-  no_inputs : TellsNoInputs a bs → AreAskedLines n variables a bs names (numbered_line n no_inputs_text) (answered one_no nothing_unmet)
-  never : TellsNever a bs → AreAskedLines n variables a bs names (numbered_line n never_text) (answered one_no nothing_unmet)
+-- The lines of choose number n in these branches, of which samples name variables of these names and this is noted, with what they answer.
+pub data AreAskedLines (n : ℕ) (variables : List (List ℕ)) (a : Asked) (bs : List ToldBranch) (notes : Notes) : List ℕ → Answered → Type 0 where
+  no_inputs : TellsNoInputs a bs → AreAskedLines n variables a bs notes (numbered_line n no_inputs_text) (answered one_no nothing_unmet)
+  never : TellsNever a bs → AreAskedLines n variables a bs notes (numbered_line n never_text) (answered one_no nothing_unmet)
   asked : (e : ExistenceAnswer) → (u : UniquenessAnswer) → TellsExistence a bs e → TellsUniqueness a bs u → (more : List ℕ) →
-      AreUnboundedLines a bs n names more →
-      AreAskedLines n variables a bs names
+      AreBesideLines a bs n notes more →
+      AreAskedLines n variables a bs notes
       (numbered_line n (existence_text variables e) ++ numbered_line n (uniqueness_text variables u) ++ more ++ tuples_line n (most_tuples a bs))
       (answered (unmet_existence e) (unmet_uniqueness u))
 
@@ -170,7 +194,7 @@ pub data AreLines (file : File) (matches : List MatchTree) (told : List ToldChoo
       IsExistence q.scope q.outputs q.relation e → IsUniqueness q.scope q.outputs (length q.outputs) q.relation u →
       AreLines file matches told q (existence_line q e ++ uniqueness_line q u) (answered (unmet_existence e) (unmet_uniqueness u))
   of_told : IsOwn matches q.number → (c : ToldChoose) → told_of told q.number ≡ Some c → (text : List ℕ) → (a : Answered) →
-      AreAskedLines q.number (told_names q c) (asked_of q c) c.branches (output_names file q.number) text a → AreLines file matches told q text a
+      AreAskedLines q.number (told_names q c) (asked_of q c) c.branches (notes_at file q.number) text a → AreLines file matches told q text a
   of_arm : (m : MatchTree) → Contains matches m → IsArm m q.number → (u : UniquenessAnswer) → TellsArm file.edition q.scope q.outputs q.relation u →
       (more : List ℕ) → AreBehindArm file.edition (output_names file q.number) q more →
       AreLines file matches told q (uniqueness_line q u ++ more) (answered nothing_unmet (unmet_uniqueness u))

@@ -1,7 +1,8 @@
 -- What `emit smt` writes: the chooses of a source with their arms, and goals for solvers.
-use Rattle.std.specs.Prelude.{◌≡◌, ◌==◌, ℕ, ◌+◌, ◌&&◌, Bool, true, false, List, [], ◌∷◌, ◌++◌, length, Result, Ok, Err, if◌then◌else◌}
+use Rattle.std.specs.Prelude.{⊥, ◌≡◌, ◌==◌, ℕ, ◌+◌, ◌&&◌, Bool, true, false, List, [], ◌∷◌, ◌++◌, length, Result, Ok, Err, if◌then◌else◌}
 use Rattle.std.specs.List.{list_all}
 use Rattle.cf_tree.specs.ChooseTree.{ChooseTree}
+use Rattle.cf_tree.specs.CodeTree.{CodeTree, code_solve}
 use Rattle.cf_program.specs.Checked.{TypedTree}
 use Rattle.cf_build.specs.Chooses.{all_chooses, by_number, choose_arms}
 use Rattle.cf_smt.specs.Forms.{rel_has_form, arms_have_forms}
@@ -42,6 +43,10 @@ AreClaimed [] text = text ≡ []
 AreClaimed (c ∷ cs) text = (claim : Claim) × (more : List ℕ) × (text ≡ claim_text claim ++ more) × IsClaimOf c.0 c.1 claim × AreClaimed cs more
 
 -- ---- what the parts of it answer
+abbrev pub IsSolve : CodeTree → Type 0
+IsSolve (code_solve n arms) = Unit {0}
+IsSolve c = ⊥
+
 -- a set stands where none may, or memory ran out
 abbrev pub IsClaimFault : Bool → ClaimFault → Type 0
 IsClaimFault forms Sets = forms ≡ false

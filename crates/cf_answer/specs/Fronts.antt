@@ -3,6 +3,7 @@ use Rattle.std.specs.Prelude.{ℕ, ◌-◌, ◌==◌, List, [], ◌∷◌, ◌++
 use Rattle.cf_tree.specs.declared.base.Edition.{Edition}
 use Rattle.cf_tree.specs.declared.base.Edition.TheVariants.{Two, Three}
 use Rattle.cf_tree.specs.declared.base.Place.{Place}
+use Rattle.cf_advice.specs.Ors.{OrTree}
 use Rattle.cf_advice.specs.Spots.{SpotTree}
 use Rattle.cf_help.specs.Messages.{heading}
 
@@ -26,6 +27,18 @@ outputs_in (Some s) = s.outputs
 -- the names of the outputs of the choose of this number, or of the variables of the pattern
 abbrev pub output_names : File → ℕ → List (List ℕ)
 output_names file n = outputs_in (spot_at file n)
+
+-- what is noted of a choose: the names of its outputs, and the `||` of its relation under `&&` alone
+pub record Notes : Type 0 where
+  pub outputs : List (List ℕ)
+  pub ors : List OrTree
+
+abbrev pub notes_in : Option SpotTree → Notes
+notes_in None = record { outputs = []; ors = [] }
+notes_in (Some s) = record { outputs = s.outputs; ors = s.ors }
+
+abbrev pub notes_at : File → ℕ → Notes
+notes_at file n = notes_in (spot_at file n)
 
 -- a place behind the name of a file
 abbrev pub place_text : Option Place → List ℕ

@@ -1,15 +1,17 @@
 -- What the answers of `check` on a choose of edition 3 say, by what its condition and its relation mean. Nothing is said of how an answer is found, and an
 -- undecided one promises nothing.
-use Rattle.std.specs.Prelude.{ℕ, ℤ, ◌≡◌, ◌≢◌, ◌<◌, ◌+◌, max, ◌&&◌, ⊤, Bool, true, false, not, Option, Some, None, List, [], ◌∷◌, length, map, take, slice_get, All, Any}
+use Rattle.std.specs.Prelude.{ℕ, ℤ, ◌≡◌, ◌≢◌, ◌<◌, ◌+◌, max, ◌&&◌, ⊤, Bool, true, false, not, Option, Some, None, List, [], ◌∷◌, ◌++◌, length, map, take, slice_get, All, Any}
 use Rattle.cf_tree.specs.declared.base.Base.{Base}
 use Rattle.cf_tree.specs.declared.base.Base.TheVariants.{Int}
 use Rattle.cf_tree.specs.declared.base.Edition.{Edition}
 use Rattle.cf_tree.specs.declared.base.Edition.TheVariants.{Two, Three}
 use Rattle.cf_tree.specs.Occurs.{rel_holds}
-use Rattle.cf_tree.specs.Relation.{Sol, IsTyped}
+use Rattle.cf_tree.specs.Relation.{Holds, Sol, IsTyped}
 use Rattle.cf_tree.specs.RelTree.{RelTree}
 use Rattle.cf_tree.specs.Values.{Value, truth, value_at, same_value, HaveBases}
 use Rattle.cf_advice.specs.Bounds.{IsUnbounded}
+use Rattle.cf_advice.specs.Ors.{part_at}
+use Rattle.cf_advice.specs.declared.ors.Side.{Side}
 use Rattle.cf_eval.specs.Seen.{plains}
 use Rattle.cf_form.specs.Branches.{Branch, is_among, is_truth as is_truth_base, values_in}
 use Rattle.cf_form.specs.Told.{Allows, ToldBranch}
@@ -126,6 +128,18 @@ TellsNever a bs = All (λ b. (env : List Value) → IsInput a.scope b env → Ha
 -- nothing bounds output number k, counted from 0, which is a number
 abbrev pub TellsUnbounded : Asked → List ToldBranch → ℕ → Type 0
 TellsUnbounded a bs k = (slice_get a.shown k ≡ Some Int) × All (λ b. IsUnbounded (length a.scope + k) b.relation) bs
+
+-- a part of the relation never holds with it: no inputs have outputs with which both hold
+abbrev pub NeverWith : Asked → ToldBranch → RelTree → Type 0
+NeverWith a b part = (env xs : List Value) → IsInput a.scope b env → Sol a.outputs b.relation env xs → Holds part (env ++ xs) → ⊥
+
+-- the same of the part to which these sides lead; a relation with truth variables is not told as it is written
+abbrev pub NeverHoldsAt : Asked → List Side → ToldBranch → Type 0
+NeverHoldsAt a path b = (b.truths ≡ []) × (part : RelTree) × (part_at path b.relation ≡ Some part) × NeverWith a b part
+
+-- the branch of an `||` to which these sides lead never holds, with the condition and all that stands beside that `||`
+abbrev pub TellsNeverHolds : Asked → List ToldBranch → List Side → Type 0
+TellsNeverHolds a bs path = All (NeverHoldsAt a path) bs
 
 -- no number reaches arm number k, counted from 0, whose class this is: each of its numbers is in a class before it
 abbrev pub TellsUnreached : List Class → ℕ → Class → Type 0

@@ -2,11 +2,13 @@
 ghost use Rattle.std.specs.Prelude.{◌≡◌, ◌<◌, ◌-◌, ◌^◌, ◌++◌, [], true, if◌then◌else◌, IfOk, OnOk, length, map};
 ghost use Rattle.cf_form.specs.ToldView.{told_branch};
 ghost use Rattle.cf_answer.specs.Checking.{asked_view};
-ghost use Rattle.cf_answer.specs.Checks.{AreUnboundedLines, AreUnreachedLines, tuples_line, unbounded_line, unreached_line, unused_line, unused_lines as the_unused_lines};
+ghost use Rattle.cf_answer.specs.Checks.{AreBesideLines, AreUnboundedLines, AreUnreachedLines, tuples_line, unbounded_line, unreached_line, unused_line, unused_lines as the_unused_lines};
+ghost use Rattle.cf_answer.specs.FrontView.{notes_view};
 ghost use Rattle.cf_answer.specs.Tells.{TellsUnreached};
 
 use crate::choose_line::put_head;
-use crate::fronts::put_front;
+use crate::fronts::{Notes, put_front};
+use crate::ors::or_lines;
 use crate::told_check::{Asked, is_unbounded};
 use cf_covers::is_out_of_reach;
 use cf_form::Branch;
@@ -19,6 +21,25 @@ const MOST_ARMS: usize = 256;
 
 /// More search tuples than these are told.
 const MANY_TUPLES: u64 = 10_000;
+
+/// The lines on the outputs of a choose, where this is noted, and behind them those on its branches.
+///
+/// # Errors
+/// `NoMemory` where memory ran out.
+pub(crate) fn beside_lines(
+    alloc: Global,
+    asked: &Asked<'_>,
+    branches: &[Branch],
+    number: u32,
+    notes: &Notes<'_>,
+) -> Result<Vec<u8>, NoMemory>
+    ensures { IfOk result (λ t. AreBesideLines (asked_view asked.now) (map told_branch branches.now) number (notes_view notes.now) t.items) }
+{
+    let mut lines = unbounded_lines(alloc, asked, branches, number, notes.outputs)?;
+    let more = or_lines(alloc, asked, branches, number, notes.ors)?;
+    lines.extend_from_slice(&more)?;
+    Ok(lines)
+}
 
 // ---- outputs
 /// The lines on the outputs of these names that nothing bounds.

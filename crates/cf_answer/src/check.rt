@@ -25,7 +25,7 @@ ghost use Rattle.cf_answer.specs.Checking.{AddsUniqueness, AddsWritten, AreProgr
 ghost use Rattle.cf_answer.specs.Checks.{AreBehindMatch, AreChecksBehind, IsArm, IsMatch, IsOwn, cover_line, existence_text, names_at, uniqueness_text};
 ghost use Rattle.cf_answer.specs.Owed.{AreChecks, AreSourceChecks};
 ghost use Rattle.cf_answer.specs.Fronts.{File as TheFile};
-ghost use Rattle.cf_answer.specs.FrontView.{file_view};
+ghost use Rattle.cf_answer.specs.FrontView.{file_view, notes_view};
 ghost use Rattle.cf_answer.specs.Refusals.{IsRefusedSource};
 ghost use Rattle.cf_answer.specs.Sources.{IsLoweredSource};
 ghost use Rattle.cf_answer.specs.Steps.{IsCheckedSource, IsVerdict};
@@ -34,12 +34,12 @@ ghost use Rattle.cf_answer.specs.Unmet.{answered, nothing_unmet as the_nothing_u
 ghost use Rattle.cf_answer.specs.Texts.{numbered_line};
 ghost use Rattle.cf_answer.specs.ToldChecks.{is_later_branch as is_later_branch_of, told_of as the_told_of};
 
-use crate::beside::{put_tuples, unbounded_lines, unreached_lines};
+use crate::beside::{beside_lines, put_tuples, unbounded_lines, unreached_lines};
 use crate::choose_line::{put_head, put_line};
 use crate::choose_origin::{Matches, Origin, arms_of, origin_of};
 use crate::coverage::cover_in;
 use crate::fault::Fault;
-use crate::fronts::{File, output_names, put_written};
+use crate::fronts::{File, Notes, notes_at, output_names, put_written};
 use crate::source::{CheckedSource, read_checked, read_lowered};
 use crate::told_check::{
     Asked, Telling, have_no_inputs, have_no_outputs, is_told, named_levels, told_existence,
@@ -56,7 +56,7 @@ use cf_form::{Branch, ChooseInfo};
 use cf_io::Sink;
 use cf_lex::edition_of;
 use cf_match::{Class, Lowered, MatchInfo, lower};
-use cf_tree::{Edition, NoMemory, Rel, Text, without};
+use cf_tree::{Edition, NoMemory, Rel, without};
 use cf_warn::{
     Cover, ExistenceAnswer, UniquenessAnswer, existence, parameters, tuple_count, uniqueness,
 };
@@ -182,16 +182,16 @@ fn only_line(text: &mut Vec<u8>, number: u32, words: &[u8]) -> Result<Answered, 
 // Adds the lines beside the answers on a choose of which this is told.
 fn put_beside(
     alloc: Global,
-    names: &[Text],
+    notes: &Notes<'_>,
     number: u32,
     asked: &Asked<'_>,
     branches: &[Branch],
     text: &mut Vec<u8>,
 ) -> Result<(), NoMemory>
     requires { All IsOutput asked.now.outputs.now }
-    ensures { OnOk result (AddsBeside (asked_view asked.now) (map told_branch branches.now) names.now number text.old.items text.new.items) }
+    ensures { OnOk result (AddsBeside (asked_view asked.now) (map told_branch branches.now) (notes_view notes.now) number text.old.items text.new.items) }
 {
-    let lines = unbounded_lines(alloc, asked, branches, number, names)?;
+    let lines = beside_lines(alloc, asked, branches, number, notes)?;
     text.extend_from_slice(&lines)?;
     let tuples = told_tuples(alloc, asked, branches)?;
     put_tuples(text, number, tuples)
@@ -201,7 +201,7 @@ fn put_beside(
 // existence.
 fn check_answers(
     alloc: Global,
-    names: &[Text],
+    notes: &Notes<'_>,
     choose: &SolvedChoose<'_>,
     asked: &Asked<'_>,
     branches: &[Branch],
@@ -210,12 +210,12 @@ fn check_answers(
 ) -> Result<Answered, NoMemory>
     requires outputs { All IsOutput asked.now.outputs.now }
     requires exists { TellsExistence (asked_view asked.now) (map told_branch branches.now) exists.now }
-    ensures { IfOk result (AddsAsked choose.now (asked_view asked.now) (map told_branch branches.now) names.now text.old.items text.new.items) }
+    ensures { IfOk result (AddsAsked choose.now (asked_view asked.now) (map told_branch branches.now) (notes_view notes.now) text.old.items text.new.items) }
 {
     put_existence_line(text, choose, asked.levels, exists)?;
     let unique = told_uniqueness(alloc, asked, branches)?;
     put_uniqueness_line(text, choose, asked.levels, &unique)?;
-    put_beside(alloc, names, choose.choose.number, asked, branches, text)?;
+    put_beside(alloc, notes, choose.choose.number, asked, branches, text)?;
     Ok(Answered {
         existence: unmet_existence(exists),
         uniqueness: unmet_uniqueness(&unique),
@@ -244,14 +244,14 @@ fn is_never(
 // Adds the lines of a choose of which this is told, whose conditions may hold.
 fn check_inputs(
     alloc: Global,
-    names: &[Text],
+    notes: &Notes<'_>,
     choose: &SolvedChoose<'_>,
     asked: &Asked<'_>,
     branches: &[Branch],
     text: &mut Vec<u8>,
 ) -> Result<Answered, NoMemory>
     requires { All IsOutput asked.now.outputs.now }
-    ensures { IfOk result (AddsAsked choose.now (asked_view asked.now) (map told_branch branches.now) names.now text.old.items text.new.items) }
+    ensures { IfOk result (AddsAsked choose.now (asked_view asked.now) (map told_branch branches.now) (notes_view notes.now) text.old.items text.new.items) }
 {
     let exists = told_existence(alloc, asked, branches)?;
     match is_never(alloc, asked, branches, &exists) {
@@ -264,7 +264,7 @@ fn check_inputs(
             )
         }
         Ok(false) => {
-            let answered = check_answers(alloc, names, choose, asked, branches, &exists, text);
+            let answered = check_answers(alloc, notes, choose, asked, branches, &exists, text);
             without(exists, answered)
         }
         Err(fault) => Err(without(exists, fault)),
@@ -274,14 +274,14 @@ fn check_inputs(
 // Adds the lines of a choose of which this is told, by what is asked of it.
 fn check_asked(
     alloc: Global,
-    names: &[Text],
+    notes: &Notes<'_>,
     choose: &SolvedChoose<'_>,
     asked: &Asked<'_>,
     branches: &[Branch],
     text: &mut Vec<u8>,
 ) -> Result<Answered, NoMemory>
     requires { All IsOutput asked.now.outputs.now }
-    ensures { IfOk result (AddsAsked choose.now (asked_view asked.now) (map told_branch branches.now) names.now text.old.items text.new.items) }
+    ensures { IfOk result (AddsAsked choose.now (asked_view asked.now) (map told_branch branches.now) (notes_view notes.now) text.old.items text.new.items) }
 {
     if have_no_inputs(alloc, asked, branches)? {
         return only_line(
@@ -290,18 +290,18 @@ fn check_asked(
             b"given holds for no inputs".as_slice(),
         );
     }
-    check_inputs(alloc, names, choose, asked, branches, text)
+    check_inputs(alloc, notes, choose, asked, branches, text)
 }
 
-// Adds the lines of a choose of the source of which this is told, whose outputs have these names.
+// Adds the lines of a choose of the source of which this is told, where this is noted.
 fn check_told(
     alloc: Global,
-    names: &[Text],
+    notes: &Notes<'_>,
     choose: &SolvedChoose<'_>,
     info: &ChooseInfo,
     text: &mut Vec<u8>,
 ) -> Result<Answered, NoMemory>
-    ensures { IfOk result (AddsTold choose.now (told_choose info.now) names.now text.old.items text.new.items) }
+    ensures { IfOk result (AddsTold choose.now (told_choose info.now) (notes_view notes.now) text.old.items text.new.items) }
 {
     let scope = choose.solved.scope();
     let levels = named_levels(alloc, scope.len(), info)?;
@@ -311,7 +311,7 @@ fn check_told(
         shown: &info.outputs,
         levels: &levels,
     };
-    check_asked(alloc, names, choose, &asked, &info.branches, text)
+    check_asked(alloc, notes, choose, &asked, &info.branches, text)
 }
 
 // Adds the lines of a choose of the source, by what is told of it.
@@ -327,8 +327,8 @@ fn check_own(
 {
     match told_of(told, choose.choose.number) {
         Telling::Told(info) => {
-            let names = output_names(file, choose.choose.number);
-            check_told(alloc, names, choose, info, text)
+            let notes = notes_at(file, choose.choose.number);
+            check_told(alloc, &notes, choose, info, text)
         }
         Telling::Nothing => check_choose(alloc, choose, text),
     }

@@ -2,10 +2,10 @@
 ghost use Rattle.std.specs.Prelude.{◌≡◌, ◌++◌, ◌∷◌, [], ◌==◌, true, if◌then◌else◌, OnOk, map};
 ghost use Rattle.cf_help.specs.Lines.{shown, shown_byte as the_shown_byte};
 ghost use Rattle.cf_help.specs.Messages.{heading};
-ghost use Rattle.cf_answer.specs.Fronts.{fronted, output_names as the_output_names, place_in, place_text, spot_at, written_in};
-ghost use Rattle.cf_answer.specs.FrontView.{file_view};
+ghost use Rattle.cf_answer.specs.Fronts.{fronted, output_names as the_output_names, notes_at as the_notes, place_in, place_text, spot_at, written_in};
+ghost use Rattle.cf_answer.specs.FrontView.{file_view, notes_view};
 
-use cf_advice::Spot;
+use cf_advice::{Or, Spot};
 use cf_tree::{Edition, NoMemory, Place, Text, put_number};
 use std::alloc::Global;
 
@@ -15,6 +15,13 @@ pub struct File<'a> {
     pub edition: Edition,
     pub name: &'a [u8],
     pub spots: &'a [Spot],
+}
+
+/// What is noted of a choose: the names of its outputs, and the `||` of its relation under `&&` alone.
+#[derive(Clone, Copy)]
+pub(crate) struct Notes<'a> {
+    pub(crate) outputs: &'a [Text],
+    pub(crate) ors: &'a [Or],
 }
 
 // The place of a number.
@@ -34,6 +41,22 @@ pub(crate) fn output_names<'a>(file: &File<'a>, number: u32) -> &'a [Text]
     match file.spots.get(number.saturating_sub(1) as usize) {
         Some(spot) => &spot.outputs,
         None => &[],
+    }
+}
+
+/// What is noted of the choose of this number.
+pub(crate) fn notes_at<'a>(file: &File<'a>, number: u32) -> Notes<'a>
+    ensures { notes_view result ≡ the_notes (file_view file.now) number }
+{
+    match file.spots.get(number.saturating_sub(1) as usize) {
+        Some(spot) => Notes {
+            outputs: &spot.outputs,
+            ors: &spot.ors,
+        },
+        None => Notes {
+            outputs: &[],
+            ors: &[],
+        },
     }
 }
 

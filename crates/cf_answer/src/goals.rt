@@ -1,5 +1,5 @@
 //! `emit smt`: the chooses of a source with their arms, and goals for solvers.
-ghost use Rattle.std.specs.Prelude.{◌≡◌, ◌≤◌, ◌<◌, ◌-◌, ◌^◌, ◌∷◌, [], List, ℕ, length, map, IfOk};
+ghost use Rattle.std.specs.Prelude.{◌≡◌, ◌≤◌, ◌<◌, ◌-◌, ◌^◌, ◌∷◌, [], List, ℕ, length, map, IfOk, ⊤};
 ghost use Rattle.cf_io.specs.Seen.{SourceSeen};
 ghost use Rattle.cf_pass.specs.Passes.{Told};
 ghost use Rattle.cf_tree.specs.ChooseTree.{ChooseTree};
@@ -12,7 +12,7 @@ ghost use Rattle.cf_build.specs.Solves.{AreSolved, IsSolved};
 ghost use Rattle.cf_words.specs.Commands.{goals as the_goals};
 ghost use Rattle.cf_answer.specs.Branches.{in_branches};
 ghost use Rattle.cf_answer.specs.Certificates.{asked_in};
-ghost use Rattle.cf_answer.specs.Claims.{branch_behind as branch_of, GoalsAnswer, GoalsWritten};
+ghost use Rattle.cf_answer.specs.Claims.{branch_behind as branch_of, GoalsAnswer, GoalsWritten, IsSolve};
 ghost use Rattle.cf_answer.specs.Ends.{AnswersOn};
 ghost use Rattle.cf_answer.specs.Limits.{text_limit};
 ghost use Rattle.cf_answer.specs.Outside.{streams};
@@ -32,7 +32,7 @@ use cf_io::Sink;
 use cf_lex::edition_of;
 use cf_print_block::Outputs;
 use cf_smt::{Claim, ClaimFault, put_claim, put_head};
-use cf_tree::{Arm, Choose, Code, NoMemory, Param, Program, Text, add_u32, put_number};
+use cf_tree::{Arm, Choose, Code, NoMemory, Param, Text, add_u32, put_number};
 use std::alloc::Global;
 
 // The names of a scope.
@@ -143,12 +143,13 @@ fn put_solve(
     code: &Code,
     text: &mut Vec<u8>,
 ) -> Result<(), ClaimFault>
+    requires { IsSolve (code_tree code.now) }
     ensures { code_tree code.now ≡ code_solve choose.now.number (choose_arms (choose_tree choose.now)) →
         GoalsAnswer (choose_tree choose.now) branch text.old.items text.new.items result }
 {
     match code {
         Code::Solve { arms, .. } => put_arms(wishes, choose, branch, arms, text),
-        _ => Err(ClaimFault::NoMemory),
+        _ => unreachable!(),
     }
 }
 
@@ -221,19 +222,14 @@ fn goals(wishes: Wishes<'_>, source: &[u8], program: &ToldProgram) -> Result<Vec
     }
 }
 
-// The names of the outputs in a source text. It has been read before, so that it is refused is not told here.
-fn output_wishes(alloc: Global, text: &[u8]) -> Result<Vec<Outputs>, NoMemory>
+// The names of the outputs in a source text.
+fn output_wishes(alloc: Global, text: &[u8]) -> Result<Vec<Outputs>, Fault>
     requires short { length text.now ≤ text_limit }
     requires place { length text.now < 2 ^ 32 - 1 }
+    ensures { IsVerdict (λ names. ⊤) (IsRefusedClaims text.now) result }
 {
-    match parsed(alloc, edition_of(text), text) {
-        Ok(program) => outputs_of(alloc, &program),
-        Err(_) => Err(NoMemory),
-    }
-}
-
-fn outputs_of(alloc: Global, program: &Program) -> Result<Vec<Outputs>, NoMemory> {
-    let names = hints(alloc, program)?;
+    let program = parsed(alloc, edition_of(text), text)?;
+    let names = hints(alloc, &program)?;
     Ok(names.outputs)
 }
 

@@ -23,6 +23,7 @@ mod late;
 mod laws;
 mod limits;
 mod names;
+mod ors;
 mod outcome;
 mod pieces;
 mod pre;

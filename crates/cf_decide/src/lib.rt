@@ -3,6 +3,7 @@
 //! values are tried.
 #![tactic(auto)]
 
+mod branches;
 mod effort;
 mod existence;
 mod never;
@@ -10,6 +11,7 @@ mod samples;
 mod searching;
 mod uniqueness;
 
+pub use crate::branches::{MOST_BRANCHES, never_holds_with};
 pub use crate::effort::Effort;
 pub use crate::existence::decide_existence;
 pub use crate::never::never_holds;

@@ -27,10 +27,25 @@ pub fn never_holds(
     requires linear { IsLinear (rel_tree rel.now) }
     ensures { IfOk result (λ b. b ≡ true → NeverHolds scope.now outputs.now (rel_tree rel.now)) }
 {
+    never_holds_within(alloc, scope, outputs, rel, Limits::never())
+}
+
+// The same within these limits.
+pub(crate) fn never_holds_within(
+    alloc: Global,
+    scope: &[Base],
+    outputs: &[Base],
+    rel: &Rel,
+    limits: Limits,
+) -> Result<bool, NoMemory>
+    requires typed { IsTyped (scope.now ++ outputs.now) (rel_tree rel.now) }
+    requires linear { IsLinear (rel_tree rel.now) }
+    ensures { IfOk result (λ b. b ≡ true → NeverHolds scope.now outputs.now (rel_tree rel.now)) }
+{
     if scope.len() > MOST_VARIABLES || outputs.len() > MOST_VARIABLES {
         return Ok(false);
     }
-    match refute(alloc, scope, outputs, rel, Limits::never()) {
+    match refute(alloc, scope, outputs, rel, limits) {
         Ok(outcome) => Ok(is_closed(&outcome)),
         Err(ChooseFault::Refused(_)) => Ok(false),
         Err(ChooseFault::NoMemory) => Err(NoMemory),

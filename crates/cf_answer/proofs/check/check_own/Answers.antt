@@ -10,7 +10,7 @@ returns-in-Told c =
     let told = map told_choose c.args.told.now in
     let is = sym (rw c.in-Told.is at c.told_of.ensures) in
     IfOk-weaker c.check_told.result _ _
-    (λ a h matches own. told_checked (file_view c.args.file.now) matches told c.args.choose.now _ _ _ _ a c.output_names-names.ensures h own is)
+    (λ a h matches own. told_checked (file_view c.args.file.now) matches told c.args.choose.now _ _ _ _ a c.notes_at-notes.ensures h own is)
     c.check_told.ensures
 
 pub returns-in-Nothing : goal.returns-in-Nothing

@@ -14,7 +14,7 @@ returns-in_err-program-clause-answers g c =
 pub returns-in_err-outputs-clause-answers : goal.returns-in_err-outputs-clause-answers
 returns-in_err-outputs-clause-answers g c =
     let p = err_from_is_err_and c.from_residual-in_err-outputs.result c.from_residual-in_err-outputs.ensures.1 in
-    λ file given input. rw (p.1, p.2) (stopped_answers _ given given _ _ _ refl (inr refl))
+    λ file given input. rw (p.1, p.2) (stopped_answers _ given given _ _ _ refl c.in_err-outputs.ensures)
 
 pub returns-in_err-goals-clause-answers : goal.returns-in_err-goals-clause-answers
 returns-in_err-goals-clause-answers g c =
