@@ -1,5 +1,5 @@
 -- What `emit smt` writes: the chooses of a source with their arms, and goals for solvers.
-use Rattle.std.specs.Prelude.{⊥, ◌≡◌, ◌==◌, ℕ, ◌+◌, ◌&&◌, Bool, true, false, List, [], ◌∷◌, ◌++◌, length, Result, Ok, Err, if◌then◌else◌}
+use Rattle.std.specs.Prelude.{◌≡◌, ◌==◌, ℕ, ◌+◌, ◌&&◌, Bool, true, false, List, [], ◌∷◌, ◌++◌, length, Result, Ok, Err, if◌then◌else◌}
 use Rattle.std.specs.List.{list_all}
 use Rattle.cf_tree.specs.ChooseTree.{ChooseTree}
 use Rattle.cf_tree.specs.CodeTree.{CodeTree, code_solve}

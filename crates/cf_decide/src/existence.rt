@@ -9,6 +9,7 @@ ghost use Rattle.cf_decide.specs.Finding.{IsFound};
 
 use crate::effort::Effort;
 use crate::searching::{Found, search};
+use crate::trying::missing_sample;
 use cf_choose::Solved;
 use cf_eval::Value;
 use cf_tree::{NoMemory, without};
@@ -29,7 +30,7 @@ pub fn decide_existence(
 {
     let answer = by_elimination(alloc, solved)?;
     match followed(effort, &answer) {
-        Some(doubt) => by_search(alloc, solved, without(answer, doubt)),
+        Some(doubt) => in_doubt(alloc, solved, without(answer, doubt)),
         None => Ok(answer),
     }
 }
@@ -52,6 +53,17 @@ fn doubt_of(answer: &ExistenceAnswer) -> Option<Doubt> {
     match answer {
         ExistenceAnswer::Undecided(doubt) => Some(*doubt),
         ExistenceAnswer::Always | ExistenceAnswer::Missing(_) => None,
+    }
+}
+
+// What a search finds, or a sample that is found by trying, or the doubt.
+fn in_doubt(alloc: Global, solved: &Solved, doubt: Doubt) -> Result<ExistenceAnswer, NoMemory>
+    ensures { IfOk result (SaysExistence solved.now.scope.items solved.now.outputs.items (rel_tree solved.now.rel)) }
+{
+    let answer = by_search(alloc, solved, doubt)?;
+    match doubt_of(&answer) {
+        Some(doubt) => by_trials(alloc, solved, without(answer, doubt)),
+        None => Ok(answer),
     }
 }
 
@@ -111,5 +123,15 @@ fn missing(values: Vec<Value>, count: usize) -> Result<ExistenceAnswer, NoMemory
     match sample.split_off(count) {
         Ok(_) => Ok(ExistenceAnswer::Missing(sample)),
         Err(_) => Err(without(sample, NoMemory)),
+    }
+}
+
+// A sample that is found by trying, or the doubt.
+fn by_trials(alloc: Global, solved: &Solved, doubt: Doubt) -> Result<ExistenceAnswer, NoMemory>
+    ensures { IfOk result (SaysExistence solved.now.scope.items solved.now.outputs.items (rel_tree solved.now.rel)) }
+{
+    match missing_sample(alloc, solved)? {
+        Some(sample) => Ok(ExistenceAnswer::Missing(sample)),
+        None => Ok(ExistenceAnswer::Undecided(doubt)),
     }
 }

@@ -1,14 +1,19 @@
 //! Whether a choose has outputs for every choice of its parameters, and whether they are the only ones: by an elimination of its
 //! questions, and where a question is left in doubt, by a search for a refutation of it. Where the search ends at a model, its
-//! values are tried.
+//! values are tried, and where it finds nothing, some inputs are.
 #![tactic(auto)]
 
 mod branches;
 mod effort;
+mod exchange;
 mod existence;
 mod never;
 mod samples;
 mod searching;
+mod second;
+mod trials;
+mod trying;
+mod turns;
 mod uniqueness;
 
 pub use crate::branches::{MOST_BRANCHES, never_holds_with};

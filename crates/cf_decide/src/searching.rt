@@ -17,7 +17,7 @@ use cf_tree::{Base, NoMemory, Rel, without};
 use std::alloc::Global;
 
 /// The most variables of a question of which a refutation is looked for.
-pub const MOST_VARIABLES: usize = 300;
+pub const MOST_VARIABLES: usize = 400;
 
 // What is found of a question.
 #[derive(Drop)]
@@ -100,7 +100,12 @@ fn tried(
 }
 
 // The values, if the relation holds at them.
-fn found_at(alloc: Global, bases: &[Base], rel: &Rel, values: Vec<Value>) -> Result<Found, NoMemory>
+pub(crate) fn found_at(
+    alloc: Global,
+    bases: &[Base],
+    rel: &Rel,
+    values: Vec<Value>,
+) -> Result<Found, NoMemory>
     ensures { IfOk result (IsFound bases.now (rel_tree rel.now)) }
 {
     match solves(alloc, bases, rel, &values) {

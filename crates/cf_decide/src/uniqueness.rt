@@ -8,9 +8,10 @@ ghost use Rattle.cf_decide.specs.Finding.{IsFound};
 
 use crate::effort::Effort;
 use crate::searching::{Found, search};
+use crate::second::two_solutions;
 use cf_choose::Solved;
 use cf_eval::Value;
-use cf_tree::{NoMemory, without};
+use cf_tree::{Base, NoMemory, Rel, without};
 use cf_warn::{Doubt, UniquenessAnswer, parameters, twice, twice_outputs, uniqueness};
 use std::alloc::Global;
 
@@ -88,7 +89,42 @@ fn searched(
     let bases = twice_outputs(alloc, solved, &params)?;
     let rel = twice(alloc, solved, params, shown)?;
     let found = search(alloc, &bases, &rel);
-    without(rel, found)
+    let told = or_tried(alloc, solved, &bases, &rel, found);
+    without(rel, told)
+}
+
+// What was found of the question, or what trying finds where that was nothing.
+fn or_tried(
+    alloc: Global,
+    solved: &Solved,
+    bases: &[Base],
+    rel: &Rel,
+    found: Result<Found, NoMemory>,
+) -> Result<Found, NoMemory>
+    requires { IfOk found (IsFound bases.now (rel_tree rel.now)) }
+    ensures { IfOk result (IsFound bases.now (rel_tree rel.now)) }
+{
+    match found {
+        Ok(found) => if_nothing(alloc, solved, bases, rel, found),
+        Err(fault) => Err(fault),
+    }
+}
+
+fn if_nothing(
+    alloc: Global,
+    solved: &Solved,
+    bases: &[Base],
+    rel: &Rel,
+    found: Found,
+) -> Result<Found, NoMemory>
+    requires { IsFound bases.now (rel_tree rel.now) found }
+    ensures { IfOk result (IsFound bases.now (rel_tree rel.now)) }
+{
+    match found {
+        Found::Never => Ok(Found::Never),
+        Found::At(values) => Ok(Found::At(values)),
+        Found::Nothing => two_solutions(alloc, solved, bases, rel),
+    }
 }
 
 // The answer, where this is found of the question.

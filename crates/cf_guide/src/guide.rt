@@ -12,6 +12,7 @@ use crate::limits::{Limit, Limits, MOST_DEPTH, MOST_FACTS};
 use crate::normal::{divide, settle_pairs};
 use crate::plan::{Plan, Work};
 use crate::point::Point;
+use crate::quotients::equate_quotients;
 use crate::splits::{Split, choose};
 use cf_close::{Action, Answer, Fact, Fault, Guide, Multiple, Problem, Refutation, close};
 use cf_simplex::{Effort, Found, Part, Simplex, Stop};
@@ -249,6 +250,9 @@ fn simpler(
     }
     if work.plan.is_empty() {
         settle_pairs(alloc, frame, facts, &mut work.plan)?;
+    }
+    if work.plan.is_empty() && frame.depth == 0 && frame.fractions == 0 {
+        equate_quotients(alloc, frame, facts, work)?;
     }
     if work.plan.is_empty() {
         by_bounds(alloc, frame, work, refutation)?;

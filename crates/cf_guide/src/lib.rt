@@ -13,6 +13,7 @@ mod normal;
 mod numbers;
 mod plan;
 mod point;
+mod quotients;
 mod rows;
 mod splits;
 
