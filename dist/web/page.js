@@ -1226,7 +1226,7 @@ const examples = [
   "lines": ""
  }
 ];
-const programSum = "e229f60957335929ac7aec1e3ee78eb0ddc3334b38cc82baf64945845dde4795";
+const programSum = "3077d35464ce2762c2f05f796663889e016b71b36a65d86452ea186c67c3e21e";
 // What is read off the text of a program by its tokens.
 
 // The name that the program has for the page, and at home.
@@ -1424,7 +1424,7 @@ const tour = [
     example: 'wait',
     change: {from: 'wait < HALF_DAY', to: 'wait <= HALF_DAY'},
     tab: 'check',
-    seen: ['choose 1: two outputs for t = -720: 0 and 720'],
+    seen: ['program.cf:5:25: choose 1: two outputs for t = -720: 0 and 720'],
   },
   {
     title: 'Fix it',
@@ -1435,12 +1435,12 @@ const tour = [
     example: 'wait',
     change: {from: 'wait < HALF_DAY', to: 'wait <= HALF_DAY'},
     tab: 'check',
-    seen: ['choose 1: two outputs for t = -720: 0 and 720'],
+    seen: ['program.cf:5:25: choose 1: two outputs for t = -720: 0 and 720'],
     offer: {
       label: 'Fix it',
       from: 'wait <= HALF_DAY',
       to: 'wait < HALF_DAY',
-      seen: ['choose 1: outputs always', 'choose 1: outputs unique'],
+      seen: ['program.cf:5:25: choose 1: outputs always', 'program.cf:5:25: choose 1: outputs unique'],
     },
   },
   {
@@ -1453,12 +1453,12 @@ const tour = [
     ],
     example: 'pair',
     tab: 'check',
-    seen: ['choose 1: no outputs for sum = -1, difference = 0'],
+    seen: ['program.cf:4:3: choose 1: no outputs for sum = -1, difference = 0'],
     offer: {
       label: 'Say so',
       from: ' where x',
       to: '\n  given 2 divides sum + difference\n  where x',
-      seen: ['choose 1: outputs always', 'choose 1: outputs unique'],
+      seen: ['program.cf:4:3: choose 1: outputs always', 'program.cf:4:3: choose 1: outputs unique'],
     },
   },
   {
@@ -2327,7 +2327,7 @@ const mostLines = 5000;
 
 function classOf(line) {
   if (/: (outputs always|outputs unique|covers all numbers|verified)$/.test(line)) return 'good';
-  return /undecided/.test(line) ? 'dim' : 'bad';
+  return /undecided|nothing (bounds|uses) |no number reaches |a line may try /.test(line) ? 'dim' : 'bad';
 }
 
 function leadingLine(line, go) {
