@@ -6,7 +6,7 @@ const mostLines = 5000;
 
 function classOf(line) {
   if (/: (outputs always|outputs unique|covers all numbers|verified)$/.test(line)) return 'good';
-  return /undecided|nothing (bounds|uses) |no number reaches |a line may try /.test(line) ? 'dim' : 'bad';
+  return /undecided|nothing (bounds|uses) |no number reaches | never holds$|a line may try /.test(line) ? 'dim' : 'bad';
 }
 
 function leadingLine(line, go) {
