@@ -1,18 +1,22 @@
 //! Whether outputs always exist.
-ghost use Rattle.std.specs.Prelude.{◌≡◌, ◌≤◌, length, IfOk};
+ghost use Rattle.std.specs.Prelude.{◌≡◌, ◌≤◌, length, true, IfOk};
 ghost use Rattle.cf_tree.specs.RelView.{rel_tree};
 ghost use Rattle.cf_warn.specs.Answering.{IsMissingOf};
 ghost use Rattle.cf_warn.specs.Missing.{none, none_outputs};
 ghost use Rattle.cf_warn.specs.Questions.{parameters};
+ghost use Rattle.cf_warn.specs.Solutions.{AreAlways};
+ghost use Rattle.cf_warn.specs.declared.answer.ExistenceAnswer.TheVariants.{Always};
 ghost use Rattle.cf_decide.specs.Answers.{SaysExistence};
 ghost use Rattle.cf_decide.specs.Finding.{IsFound};
 
 use crate::effort::Effort;
+use crate::guess::guessed;
 use crate::searching::{Found, search};
 use crate::trying::missing_sample;
+use crate::witness::is_witness;
 use cf_choose::Solved;
 use cf_eval::Value;
-use cf_tree::{NoMemory, without};
+use cf_tree::{NoMemory, Rel, without};
 use cf_warn::{Doubt, ExistenceAnswer, MOST_TUPLES, existence, none, parameters, tuple_count};
 use std::alloc::Global;
 
@@ -126,12 +130,64 @@ fn missing(values: Vec<Value>, count: usize) -> Result<ExistenceAnswer, NoMemory
     }
 }
 
-// A sample that is found by trying, or the doubt.
+// A sample that is found by trying, or what a witness shows, or the doubt.
 fn by_trials(alloc: Global, solved: &Solved, doubt: Doubt) -> Result<ExistenceAnswer, NoMemory>
     ensures { IfOk result (SaysExistence solved.now.scope.items solved.now.outputs.items (rel_tree solved.now.rel)) }
 {
     match missing_sample(alloc, solved)? {
         Some(sample) => Ok(ExistenceAnswer::Missing(sample)),
+        None => by_witness(alloc, solved, doubt),
+    }
+}
+
+// That outputs always exist, if a witness is guessed that shows it, or the doubt.
+fn by_witness(alloc: Global, solved: &Solved, doubt: Doubt) -> Result<ExistenceAnswer, NoMemory>
+    ensures { IfOk result (SaysExistence solved.now.scope.items solved.now.outputs.items (rel_tree solved.now.rel)) }
+{
+    match guessed(alloc, solved)? {
+        Some(witness) => {
+            let answer = with_witness(alloc, solved, &witness, doubt);
+            without(witness, answer)
+        }
         None => Ok(ExistenceAnswer::Undecided(doubt)),
+    }
+}
+
+fn with_witness(
+    alloc: Global,
+    solved: &Solved,
+    witness: &Rel,
+    doubt: Doubt,
+) -> Result<ExistenceAnswer, NoMemory>
+    ensures { IfOk result (SaysExistence solved.now.scope.items solved.now.outputs.items (rel_tree solved.now.rel)) }
+{
+    if is_witness(alloc, solved, witness)? {
+        Ok(ExistenceAnswer::Always)
+    } else {
+        Ok(ExistenceAnswer::Undecided(doubt))
+    }
+}
+
+// Whether an elimination or a search finds that outputs always exist.
+pub(crate) fn always_exist(alloc: Global, solved: &Solved) -> Result<bool, NoMemory>
+    ensures { IfOk result (λ b. b ≡ true → AreAlways solved.now.scope.items solved.now.outputs.items (rel_tree solved.now.rel)) }
+{
+    let answer = by_elimination(alloc, solved)?;
+    match doubt_of(&answer) {
+        Some(doubt) => {
+            let answer = by_search(alloc, solved, without(answer, doubt))?;
+            Ok(is_always(&answer))
+        }
+        None => Ok(is_always(&answer)),
+    }
+}
+
+fn is_always(answer: &ExistenceAnswer) -> bool
+    ensures { result ≡ true → answer.now ≡ Always }
+{
+    match answer {
+        ExistenceAnswer::Always => true,
+        ExistenceAnswer::Missing(_) => false,
+        ExistenceAnswer::Undecided(_) => false,
     }
 }

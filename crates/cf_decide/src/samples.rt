@@ -1,11 +1,9 @@
 //! The values of variables at a model of their relation. Nothing is promised of them: they are to be tried.
+use cf_counts::MOST_COUNTED_SETS;
 use cf_eval::Value;
 use cf_set::Set;
 use cf_tree::{Base, NoMemory, without};
 use std::alloc::Global;
-
-/// The most sets of a sample.
-const MOST_SETS: u32 = 6;
 
 /// The most elements in all sets of a sample.
 const MOST_ELEMENTS: i128 = 10_000;
@@ -37,7 +35,7 @@ impl<'a> Columns<'a> {
     }
 
     fn is_large(&self) -> bool {
-        self.sets > MOST_SETS || self.total() > MOST_ELEMENTS
+        self.sets as usize > MOST_COUNTED_SETS || self.total() > MOST_ELEMENTS
     }
 
     fn total(&self) -> i128 {

@@ -43,7 +43,7 @@ pub(crate) fn search(alloc: Global, bases: &[Base], rel: &Rel) -> Result<Found, 
 }
 
 // What a search comes to. Of a question that is not read nothing is found.
-fn of_search(
+pub(crate) fn of_search(
     alloc: Global,
     bases: &[Base],
     rel: &Rel,

@@ -1,11 +1,13 @@
 //! Whether outputs are the only ones.
 ghost use Rattle.std.specs.Prelude.{◌≡◌, ◌+◌, ◌≤◌, length, IfOk};
 ghost use Rattle.cf_tree.specs.RelView.{rel_tree};
+ghost use Rattle.cf_tree.specs.Relation.{IsTyped, IsLinear};
 ghost use Rattle.cf_warn.specs.Answering.{IsTwoOf};
 ghost use Rattle.cf_warn.specs.Questions.{parameters, twice, twice_outputs};
 ghost use Rattle.cf_decide.specs.Answers.{SaysUniqueness};
 ghost use Rattle.cf_decide.specs.Finding.{IsFound};
 
+use crate::counts::search_counts;
 use crate::effort::Effort;
 use crate::searching::{Found, search};
 use crate::second::two_solutions;
@@ -89,19 +91,21 @@ fn searched(
     let bases = twice_outputs(alloc, solved, &params)?;
     let rel = twice(alloc, solved, params, shown)?;
     let found = search(alloc, &bases, &rel);
-    let told = or_tried(alloc, solved, &bases, &rel, found);
+    let told = or_others(alloc, solved, &bases, &rel, found);
     without(rel, told)
 }
 
-// What was found of the question, or what trying finds where that was nothing.
-fn or_tried(
+// What was found of the question, or where that was nothing, what is found in other ways.
+fn or_others(
     alloc: Global,
     solved: &Solved,
     bases: &[Base],
     rel: &Rel,
     found: Result<Found, NoMemory>,
 ) -> Result<Found, NoMemory>
-    requires { IfOk found (IsFound bases.now (rel_tree rel.now)) }
+    requires typed { IsTyped bases.now (rel_tree rel.now) }
+    requires linear { IsLinear (rel_tree rel.now) }
+    requires found { IfOk found (IsFound bases.now (rel_tree rel.now)) }
     ensures { IfOk result (IsFound bases.now (rel_tree rel.now)) }
 {
     match found {
@@ -117,13 +121,28 @@ fn if_nothing(
     rel: &Rel,
     found: Found,
 ) -> Result<Found, NoMemory>
-    requires { IsFound bases.now (rel_tree rel.now) found }
+    requires typed { IsTyped bases.now (rel_tree rel.now) }
+    requires linear { IsLinear (rel_tree rel.now) }
+    requires found { IsFound bases.now (rel_tree rel.now) found }
     ensures { IfOk result (IsFound bases.now (rel_tree rel.now)) }
 {
     match found {
         Found::Never => Ok(Found::Never),
         Found::At(values) => Ok(Found::At(values)),
-        Found::Nothing => two_solutions(alloc, solved, bases, rel),
+        Found::Nothing => by_trials(alloc, solved, bases, rel),
+    }
+}
+
+// What trying finds, or what a search over counts of regions does.
+fn by_trials(alloc: Global, solved: &Solved, bases: &[Base], rel: &Rel) -> Result<Found, NoMemory>
+    requires typed { IsTyped bases.now (rel_tree rel.now) }
+    requires linear { IsLinear (rel_tree rel.now) }
+    ensures { IfOk result (IsFound bases.now (rel_tree rel.now)) }
+{
+    match two_solutions(alloc, solved, bases, rel)? {
+        Found::Never => Ok(Found::Never),
+        Found::At(values) => Ok(Found::At(values)),
+        Found::Nothing => search_counts(alloc, bases, rel),
     }
 }
 
