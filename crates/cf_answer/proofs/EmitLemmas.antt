@@ -1,12 +1,11 @@
 -- Which sources are refused in a language, and what is owed of the others.
-use Rattle.std.proofs.Common.{◌≡◌, ◌∙◌, ◌⊎◌, ◌≤◌, ◌<◌, ◌||◌, ◌&&◌, not, inl, inr, cond, refl, sym, ap, ap₂, subst, true≢false, ℕ, Bool, true, false, List, [], ◌∷◌, map, Option, None, Some, arith}
+use Rattle.std.proofs.Common.{◌≡◌, ◌∙◌, ◌⊎◌, ◌≤◌, ◌<◌, ◌||◌, ◌&&◌, not, inl, inr, cond, refl, sym, ap, ap₂, subst, true≢false, ℕ, Bool, true, false, List, [], map, Option, None, Some, arith}
 use Rattle.std.specs.List.{list_any}
 use Rattle.std.specs.Option.{option_map_or}
 use Rattle.std.specs.Prelude.{Contains, nat_le}
 use Rattle.std.proofs.lemmas.Bool.Decides.{leb_tells}
 use Rattle.cf_num.specs.Limit.{limit}
 use Rattle.cf_lex.specs.Editions.{edition_of}
-use Rattle.cf_tree.specs.declared.base.Base.{Base}
 use Rattle.cf_tree.specs.declared.base.Edition.{Edition}
 use Rattle.cf_tree.specs.declared.target.RawTarget.{RawTarget}
 use Rattle.cf_tree.specs.ChooseTree.{ChooseTree}
@@ -15,20 +14,19 @@ use Rattle.cf_tree.specs.CodeView.{code_tree}
 use Rattle.cf_tree.specs.DefView.{RawItemTree}
 use Rattle.cf_tree.specs.Meaning.{Path, outcome_of, path}
 use Rattle.cf_tree.specs.Params.{bases_of}
-use Rattle.cf_tree.specs.Values.{Value, HaveBases, number_of}
+use Rattle.cf_tree.specs.Values.{Value}
 use Rattle.cf_parse.specs.Programs.{IsProgram, program_of}
 use Rattle.cf_pass.specs.Passes.{Told, HaveTurned}
 use Rattle.cf_program.specs.Checked.{TypedTree}
 use Rattle.cf_program.specs.declared.linearity.Linearity.TheVariants.{Plain}
 use Rattle.cf_linear.specs.declared.refusal.Refusal.{Refusal}
-use Rattle.cf_shift.specs.Meeting.{AreSmall}
 use Rattle.cf_build.specs.Built.{IsBuilt, unfolded_code}
 use Rattle.cf_build.specs.Chooses.{all_chooses, by_number, first_refused, limit_of, IsFirstRefused}
 use Rattle.cf_build.proofs.ChooseLaws.{refused_has}
 use Rattle.cf_range.specs.Alike.{Alike, AnswersAlike}
 use Rattle.cf_range.specs.Ranges.{LieIn, whole}
 use Rattle.cf_range.specs.declared.range.Range.{Range}
-use Rattle.cf_range.proofs.NumberLemmas.{lies_whole}
+use Rattle.cf_range.proofs.RangeLaws.{typed_lie}
 use Rattle.cf_stmt.specs.Blocks.{Block}
 use Rattle.cf_stmt.specs.Runs.{checked, outcome_run, overflows}
 use Rattle.cf_stmt.specs.Statements.{IsStatements}
@@ -50,12 +48,6 @@ use Rattle.cf_answer.proofs.SourceLemmas.{bad_alike, built_never_bad, one_progra
 use Rattle.cf_answer.proofs.TextLemmas.{caused_too}
 
 -- ---- the text
-whole_holds : (bs : List Base) (vs : List Value) → HaveBases bs vs → AreSmall limit vs → LieIn (map (λ _. whole) bs) vs
-whole_holds [] [] bases small = tt
-whole_holds [] (v ∷ vs) bases small = absurd bases
-whole_holds (b ∷ bs) [] bases small = absurd bases
-whole_holds (b ∷ bs) (v ∷ vs) bases small = (lies_whole (number_of v) small.0, whole_holds bs vs bases.1 small.1)
-
 -- paths that are alike are run alike
 alike_run : (p q : Path (List Value)) → Alike p q → checked q ≡ checked p
 alike_run p q h = by (leb_tells p.peak limit) (leb_tells q.peak limit)
@@ -77,7 +69,7 @@ pub body_answers : (t : RawTarget) (rs : List Range) (tidy : CodeTree) (b : Bloc
 body_answers t rs tidy b is same s = λ vs bases small.
     statements_run tidy b s vs
     ∙ alike_run (path (code_tree t.code) vs) (path tidy vs)
-    (same vs (subst (λ v. LieIn v vs) (sym is) (whole_holds t.params.items vs bases small)))
+    (same vs (subst (λ v. LieIn v vs) (sym is) (typed_lie t.params.items vs bases small)))
 
 -- ---- sets
 -- the target that no pass rewrites has main's parameters, results and code

@@ -1,5 +1,5 @@
 -- Numbers that lie in ranges, and what arithmetic makes of them.
-use Rattle.std.proofs.Common.{◌≡◌, ℕ, ℤ, pos, neg_ℤ, ◌+ℤ◌, ◌-ℤ◌, ◌*ℤ◌, Bool, true, false, ◌||◌, cond, refl, ◌∙◌, arith}
+use Rattle.std.proofs.Common.{◌≡◌, ℕ, ℤ, pos, neg_ℤ, ◌+ℤ◌, ◌-ℤ◌, ◌*ℤ◌, Bool, true, false, ◌||◌, cond, length, refl, ◌∙◌, arith}
 use Rattle.std.specs.Prelude.{unsigned_abs, int_lt, ◌≤ℤ◌, ◌<ℤ◌}
 use Rattle.std.specs.Int.{int_min, int_max, int_div_euclid}
 use Rattle.std.proofs.lemmas.Int.{ints, clamps, by_lt_z}
@@ -9,8 +9,10 @@ use Rattle.cf_num.proofs.Ring.{mul_comm_z, neg-mul_z, add-mul_z}
 use Rattle.cf_num.proofs.Orders.{mul-le_z}
 use Rattle.cf_num.proofs.DivisionLemmas.{int_div_euclid-bounds, le-int_div_euclid}
 use Rattle.cf_tree.specs.Numbers.{quotient, remainder}
-use Rattle.cf_range.specs.Ranges.{between, whole, LiesIn, passes, nearest, plus, minus, times, plus_passes, minus_passes, times_passes, negated, divided, left_by, better_of, either}
+use Rattle.cf_tree.specs.Values.{Value, number, truth, elements, elements_of}
+use Rattle.cf_range.specs.Ranges.{between, whole, LiesIn, IsSized, passes, nearest, plus, minus, times, plus_passes, minus_passes, times_passes, negated, divided, left_by, sizes, better_of, either}
 use Rattle.cf_range.specs.declared.range.Range.{Range}
+use Rattle.cf_range.proofs.RisenLaws.{Rises}
 
 pub or_false : (a b : Bool) → (a || b) ≡ false → (a ≡ false) × (b ≡ false)
 or_false true b e = cc
@@ -18,6 +20,9 @@ or_false false b e = (refl, e)
 
 pub within_is : (z : ℤ) → passes z ≡ false → IsWithin z
 within_is z h = ltb-false limit (unsigned_abs z) h
+
+le_then : (a b c : ℤ) → a ≤ℤ b → b ≤ℤ c → a ≤ℤ c
+le_then a b c h k = omega (arith, ints)
 
 -- ---- the nearest number within the limit
 near_low : (a z : ℤ) → IsWithin z → a ≤ℤ z → nearest a ≤ℤ z
@@ -35,8 +40,39 @@ lies_exactly z w = (w, near_low z z w (omega (arith, ints)), near_high z z w (om
 pub zero_lies : LiesIn (between (pos 0) (pos 0)) (pos 0)
 zero_lies = (omega arith, omega (arith, ints), omega (arith, ints))
 
-pub count_lies : (n : ℕ) → IsWithin (pos n) → LiesIn (between (pos 0) (pos limit)) (pos n)
-count_lies n w = (w, omega (arith, ints), omega (arith, ints))
+-- ---- sizes of sets
+pub sized_whole : (v : Value) → Rises v → IsSized whole v
+sized_whole (number z) h = tt
+sized_whole (truth b) h = tt
+sized_whole (elements zs) h = (h, most (length zs))
+  where
+    most : (n : ℕ) → nearest (pos n) ≤ℤ pos limit
+    most n = omega (arith, ints, clamps)
+
+pub sized_rises : (r : Range) (v : Value) → IsSized r v → Rises v
+sized_rises r (number z) h = tt
+sized_rises r (truth b) h = tt
+sized_rises r (elements zs) h = h.0
+
+size_in : (high : ℤ) (n : ℕ) → IsWithin (pos n) → nearest (pos n) ≤ℤ high → LiesIn (between (pos 0) (int_max (pos 0) high)) (pos n)
+size_in high n w h = (w, omega (arith, ints), omega (arith, ints, clamps))
+
+none_in : (high : ℤ) → LiesIn (between (pos 0) (int_max (pos 0) high)) (pos 0)
+none_in high = (omega arith, omega (arith, ints), omega (arith, ints, clamps))
+
+pub size_lies : (r : Range) (v : Value) → IsSized r v → IsWithin (pos (length (elements_of v))) → LiesIn (sizes r) (pos (length (elements_of v)))
+size_lies r (number z) h w = none_in r.high
+size_lies r (truth b) h w = none_in r.high
+size_lies r (elements zs) h w = size_in r.high (length zs) w h.1
+
+sized_more : (r s : Range) (v : Value) → r.high ≤ℤ s.high → IsSized r v → IsSized s v
+sized_more r s (number z) l h = tt
+sized_more r s (truth b) l h = tt
+sized_more r s (elements zs) l h = (h.0, le_then (nearest (pos (length zs))) r.high s.high h.1 l)
+
+pub sized_either : (r s : Range) (t : Bool) (v : Value) → IsSized (cond t r s) v → IsSized (either r s) v
+sized_either r s true v h = sized_more r (either r s) v (omega (arith, ints, clamps)) h
+sized_either r s false v h = sized_more s (either r s) v (omega (arith, ints, clamps)) h
 
 -- ---- sums and differences
 pub sum_lies : (r s : Range) (x y : ℤ) → LiesIn r x → LiesIn s y → IsWithin (x +ℤ y) → LiesIn (plus r s) (x +ℤ y)
@@ -107,9 +143,6 @@ least_is a b c d = (omega (arith, ints, clamps), omega (arith, ints, clamps), om
 
 greatest_is : (a b c d : ℤ) → let m = greatest_of_four a b c d in (a ≤ℤ m) × (b ≤ℤ m) × (c ≤ℤ m) × (d ≤ℤ m)
 greatest_is a b c d = (omega (arith, ints, clamps), omega (arith, ints, clamps), omega (arith, ints, clamps), omega (arith, ints, clamps))
-
-le_then : (a b c : ℤ) → a ≤ℤ b → b ≤ℤ c → a ≤ℤ c
-le_then a b c h k = omega (arith, ints)
 
 pub product_lies : (r s : Range) (x y : ℤ) → LiesIn r x → LiesIn s y → IsWithin (x *ℤ y) → LiesIn (times r s) (x *ℤ y)
 product_lies r s x y h k w =

@@ -6,9 +6,9 @@ use Rattle.std.proofs.lemmas.Int.{ints}
 use Rattle.cf_num.specs.Limit.{limit}
 use Rattle.cf_tree.specs.declared.base.Order.TheVariants.{Lt}
 use Rattle.cf_tree.specs.CodeTree.{CodeTree, code_lit, code_truth, code_var, code_set_of, code_tuple, code_sum, code_sub, code_mul, code_neg, code_div, code_mod, code_min, code_max, code_compare, code_divides, code_and, code_or, code_not, code_union, code_inter, code_diff, code_subset, code_card, code_slice, code_fresh, code_if, code_let, code_solve, CodeTrees, no_codes, code_more, no_arms}
-use Rattle.cf_tree.specs.Values.{number, truth}
+use Rattle.cf_tree.specs.Values.{number, truth, elements}
 use Rattle.cf_range.specs.declared.range.Range.{Range}
-use Rattle.cf_range.specs.Ranges.{between, whole, LiesIn, LieIn, range_at, passes, nearest, plus, minus, times, spanned, scaled, past_or_none, plus_passes, minus_passes, times_passes, negated, divided, left_by, plus_all, plus_all_passes, better_of, best_of, either}
+use Rattle.cf_range.specs.Ranges.{between, whole, LiesIn, LieIn, range_at, passes, nearest, plus, minus, times, spanned, scaled, past_or_none, plus_passes, minus_passes, times_passes, negated, divided, left_by, sizes, plus_all, plus_all_passes, better_of, best_of, either}
 use Rattle.cf_range.specs.CodeRanges.{range_of, may_pass}
 use Rattle.cf_range.specs.Total.{is_total}
 
@@ -32,7 +32,16 @@ lies-not_past : LiesIn (between (pos 0) past) past → ⊥
 lies-not_past h = omega (arith, h.0)
 
 lie-one_for_each : LieIn (between (pos 2) (pos 5) ∷ between (pos 0) (pos 0) ∷ []) (number (pos 3) ∷ truth true ∷ [])
-lie-one_for_each = ((omega arith, omega (arith, ints), omega (arith, ints)), ((omega arith, omega (arith, ints), omega (arith, ints)), tt))
+lie-one_for_each = ((omega arith, omega (arith, ints), omega (arith, ints)), tt, ((omega arith, omega (arith, ints), omega (arith, ints)), tt, tt))
+
+lie-sized : LieIn (between (pos 0) (pos 2) ∷ []) (elements (pos 4 ∷ pos 7 ∷ []) ∷ [])
+lie-sized = ((omega arith, omega (arith, ints), omega (arith, ints)), (((omega (arith, ints), tt), (tt, tt)), omega (arith, ints)), tt)
+
+lie-too_many : LieIn (between (pos 0) (pos 1) ∷ []) (elements (pos 4 ∷ pos 7 ∷ []) ∷ []) → ⊥
+lie-too_many h = omega (arith, ints, h.1.1)
+
+lie-not_rising : LieIn (whole ∷ []) (elements (pos 7 ∷ pos 7 ∷ []) ∷ []) → ⊥
+lie-not_rising h = omega (arith, ints, h.1.0.0.0)
 
 lie-not_fewer : LieIn (whole ∷ []) [] → ⊥
 lie-not_fewer h = h
@@ -41,7 +50,7 @@ lie-not_more : LieIn [] (number (pos 0) ∷ []) → ⊥
 lie-not_more h = h
 
 lie-second_too : LieIn (whole ∷ between (pos 1) (pos 1) ∷ []) (number (pos 0) ∷ number (pos 2) ∷ []) → ⊥
-lie-second_too h = omega (arith, ints, h.1.0.2)
+lie-second_too h = omega (arith, ints, h.2.0.2)
 
 range_at-level : range_at (whole ∷ between (pos 1) (pos 2) ∷ []) 1 ≡ between (pos 1) (pos 2)
 range_at-level = refl
@@ -235,6 +244,12 @@ range_of-max = refl
 
 range_of-card : range_of rs (code_card (code_set_of no_codes)) ≡ between (pos 0) (pos limit)
 range_of-card = refl
+
+range_of-card_in_range : range_of rs (code_card x) ≡ between (pos 0) (pos 9)
+range_of-card_in_range = refl
+
+sizes-none : sizes (between (negsuc 4) (negsuc 0)) ≡ between (pos 0) (pos 0)
+sizes-none = refl
 
 range_of-if : range_of rs (code_if (code_truth true) x (lit 20)) ≡ between (pos 0) (pos 20)
 range_of-if = refl

@@ -1,34 +1,126 @@
 -- The laws of ranges.
-use Rattle.std.proofs.Common.{◌≡◌, ℕ, zero, suc, ℤ, pos, neg_ℤ, ◌+ℤ◌, ◌-ℤ◌, ◌*ℤ◌, Bool, true, false, not, ◌&&◌, List, [], ◌∷◌, ◌++◌, Option, Some, None, length, refl, arith}
+use Rattle.std.proofs.Common.{◌≡◌, ℕ, zero, suc, ℤ, pos, neg_ℤ, ◌+ℤ◌, ◌-ℤ◌, ◌*ℤ◌, Bool, true, false, not, ◌&&◌, List, [], ◌∷◌, ◌++◌, Option, Some, None, cond, length, map, refl, sym, subst, arith}
 use Rattle.std.specs.Int.{int_min, int_max}
-use Rattle.cf_num.specs.Limit.{IsWithin}
+use Rattle.cf_num.specs.Limit.{limit, IsWithin}
 use Rattle.cf_tree.specs.CodeTree.{CodeTree, code_lit, code_truth, code_var, code_set_of, code_tuple, code_sum, code_sub, code_mul, code_neg, code_div, code_mod, code_min, code_max, code_compare, code_divides, code_and, code_or, code_not, code_union, code_inter, code_diff, code_subset, code_card, code_slice, code_fresh, code_if, code_let, code_solve, CodeTrees, no_codes, code_more}
-use Rattle.cf_tree.specs.Meaning.{got, path, all_path, set_path, sum_path, best_path, join_path, meets, meets_value, gives_truth, number_in, set_in, truth_in}
+use Rattle.cf_tree.specs.Meaning.{Got, got, none_at, Path, then_gives, path, all_path, set_path, sum_path, best_path, join_path, meets, meets_value, gives_truth, number_in, set_in, truth_in}
 use Rattle.cf_tree.specs.Numbers.{quotient, remainder}
-use Rattle.cf_tree.specs.Values.{Value, number, truth, elements, number_of, value_at}
+use Rattle.cf_tree.specs.Values.{Value, number, truth, elements, number_of, first_of, value_at, HasBase, HaveBases}
+use Rattle.cf_tree.specs.declared.base.Base.{Base}
+use Rattle.cf_tree.specs.declared.base.Base.TheVariants.{Int, Bool as Truth, Set}
+use Rattle.cf_shift.specs.Meeting.{AreSmall}
 use Rattle.cf_range.specs.declared.range.Range.{Range}
-use Rattle.cf_range.specs.Ranges.{between, LiesIn, LieIn, range_at, plus, plus_all, plus_all_passes, better_of, best_of, best_after}
+use Rattle.cf_range.specs.Ranges.{between, whole, LiesIn, IsSized, LieIn, range_at, either, plus, plus_all, plus_all_passes, better_of, best_of, best_after}
 use Rattle.cf_range.specs.CodeRanges.{range_of, ranges_of, may_pass}
+use Rattle.cf_range.specs.Settled.{gives_number}
 use Rattle.cf_range.specs.Total.{is_total, are_total}
 use Rattle.cf_range.specs.RangeLaws.{Fits, AllFit, ValuesLieInRanges, NeedNoChecks, TotalCodesEvaluate}
 use Rattle.cf_shift.proofs.MeetingLaws.{path_own}
-use Rattle.cf_range.proofs.NumberLemmas.{or_false, within_is, lies_exactly, zero_lies, count_lies, lies_whole, sum_lies, difference_lies, product_lies, sum_fits, difference_fits, product_fits, negation_fits, negation_lies, quotient_fits, quotient_lies, remainder_fits, remainder_lies, Chooses, least_chooses, greatest_chooses, better_lies}
+use Rattle.cf_range.proofs.GivenLaws.{number_given}
+use Rattle.cf_range.proofs.NumberLemmas.{or_false, within_is, lies_exactly, zero_lies, sized_whole, sized_rises, size_lies, sized_either, lies_whole, sum_lies, difference_lies, product_lies, sum_fits, difference_fits, product_fits, negation_fits, negation_lies, quotient_fits, quotient_lies, remainder_fits, remainder_lies, Chooses, least_chooses, greatest_chooses, better_lies}
 use Rattle.cf_range.proofs.PathLemmas.{IsIn, then_in, only_in, meets_in, value_in, either_in, whole_in, then_fits, Does, only_does, then_does, either_does}
+use Rattle.cf_range.proofs.RisenLaws.{Rises, AllRise, first_rises, path_rises}
 
 pub lies_at : (rs : List Range) (env : List Value) (x : ℕ) → LieIn rs env → LiesIn (range_at rs x) (number_of (value_at env x))
 lies_at [] [] x h = lies_whole (pos 0) (omega arith)
 lies_at [] (v ∷ vs) x h = absurd h
 lies_at (r ∷ rs) [] x h = absurd h
 lies_at (r ∷ rs) (v ∷ vs) zero h = h.0
-lies_at (r ∷ rs) (v ∷ vs) (suc x) h = lies_at rs vs x h.1
+lies_at (r ∷ rs) (v ∷ vs) (suc x) h = lies_at rs vs x h.2
+
+sized_at : (rs : List Range) (env : List Value) (x : ℕ) → LieIn rs env → IsSized (range_at rs x) (value_at env x)
+sized_at [] [] x h = tt
+sized_at [] (v ∷ vs) x h = absurd h
+sized_at (r ∷ rs) [] x h = absurd h
+sized_at (r ∷ rs) (v ∷ vs) zero h = h.1
+sized_at (r ∷ rs) (v ∷ vs) (suc x) h = sized_at rs vs x h.2
+
+pub lie_rises : (rs : List Range) (env : List Value) → LieIn rs env → AllRise env
+lie_rises [] [] h = tt
+lie_rises [] (v ∷ vs) h = absurd h
+lie_rises (r ∷ rs) [] h = absurd h
+lie_rises (r ∷ rs) (v ∷ vs) h = (sized_rises r v h.1, lie_rises rs vs h.2)
 
 -- one value more, in one range more
 pub lie_behind : (rs : List Range) (env : List Value) (r : Range) (v : Value) → LieIn rs env → LiesIn r (number_of v) →
-    LieIn (rs ++ r ∷ []) (env ++ v ∷ [])
-lie_behind [] [] r v h k = (k, tt)
-lie_behind [] (w ∷ ws) r v h k = absurd h
-lie_behind (s ∷ ss) [] r v h k = absurd h
-lie_behind (s ∷ ss) (w ∷ ws) r v h k = (h.0, lie_behind ss ws r v h.1 k)
+    IsSized r v → LieIn (rs ++ r ∷ []) (env ++ v ∷ [])
+lie_behind [] [] r v h k s = (k, s, tt)
+lie_behind [] (w ∷ ws) r v h k s = absurd h
+lie_behind (q ∷ qs) [] r v h k s = absurd h
+lie_behind (q ∷ qs) (w ∷ ws) r v h k s = (h.0, h.1, lie_behind qs ws r v h.2 k s)
+
+-- values of these bases lie in whole ranges
+base_rises : (b : Base) (v : Value) → HasBase b v → Rises v
+base_rises Int v h = subst Rises (sym h.1) tt
+base_rises Truth v h = subst Rises (sym h.1) tt
+base_rises Set v h = subst Rises (sym h.1) h.2
+
+pub typed_lie : (bs : List Base) (vs : List Value) → HaveBases bs vs → AreSmall limit vs → LieIn (map (λ _. whole) bs) vs
+typed_lie [] [] h s = tt
+typed_lie [] (v ∷ vs) h s = absurd h
+typed_lie (b ∷ bs) [] h s = absurd h
+typed_lie (b ∷ bs) (v ∷ vs) h s = (lies_whole (number_of v) s.0, sized_whole v (base_rises b v h.0), typed_lie bs vs h.1 s.1)
+
+-- ---- sizes of the sets that codes give
+stop_not : {A : Type 0} (k : ℕ) (x : A) → none_at k ≡ got x → ⊥
+stop_not k x e = cc
+
+same_got : {A : Type 0} (x y : A) → got x ≡ got y → x ≡ y
+same_got x y e = cc
+
+abbrev pub GivesSized : Range → Got (List Value) → Type 0
+GivesSized r g = (vs : List Value) → g ≡ got vs → IsSized r (first_of vs)
+
+value_sized : (r : Range) (v : Value) → IsSized r v → GivesSized r (meets_value v).gives
+value_sized r (number z) h vs e = subst (λ ws. IsSized r (first_of ws)) (same_got (number z ∷ []) vs e) h
+value_sized r (truth b) h vs e = subst (λ ws. IsSized r (first_of ws)) (same_got (truth b ∷ []) vs e) h
+value_sized r (elements zs) h vs e = subst (λ ws. IsSized r (first_of ws)) (same_got (elements zs ∷ []) vs e) h
+
+then_sized : (r : Range) (g : Got (List Value)) (go : List Value → Got (List Value)) → ((x : List Value) → GivesSized r (go x)) → GivesSized r (then_gives g go)
+then_sized r (got x) go h vs e = h x vs e
+then_sized r (none_at k) go h vs e = absurd (stop_not k vs e)
+
+either_sized : (r s : Range) (t : Bool) (p q : Path (List Value)) → GivesSized r p.gives → GivesSized s q.gives → GivesSized (either r s) (cond t p q).gives
+either_sized r s true p q h k vs e = sized_either r s true (first_of vs) (h vs e)
+either_sized r s false p q h k vs e = sized_either r s false (first_of vs) (k vs e)
+
+module _ (rs : List Range) (env : List Value) (lie : LieIn rs env) where
+  number_sized : (c : CodeTree) → gives_number c ≡ true → GivesSized (range_of rs c) (path c env).gives
+  number_sized c t vs e = subst (IsSized (range_of rs c)) (sym (number_given c env t vs e)) tt
+
+  whole_sized : (c : CodeTree) → GivesSized whole (path c env).gives
+  whole_sized c vs e = sized_whole (first_of vs) (first_rises vs (path_rises c env (lie_rises rs env lie) vs e))
+
+  pub code_sized : (c : CodeTree) → GivesSized (range_of rs c) (path c env).gives
+  code_sized (code_lit k) = number_sized (code_lit k) refl
+  code_sized (code_truth t) = whole_sized (code_truth t)
+  code_sized (code_var x) = value_sized (range_at rs x) (value_at env x) (sized_at rs env x lie)
+  code_sized (code_set_of cs) = whole_sized (code_set_of cs)
+  code_sized (code_tuple cs) = whole_sized (code_tuple cs)
+  code_sized (code_sum cs) = number_sized (code_sum cs) refl
+  code_sized (code_sub a b) = number_sized (code_sub a b) refl
+  code_sized (code_mul a b) = number_sized (code_mul a b) refl
+  code_sized (code_neg a) = number_sized (code_neg a) refl
+  code_sized (code_div a k) = number_sized (code_div a k) refl
+  code_sized (code_mod a k) = number_sized (code_mod a k) refl
+  code_sized (code_min cs) = number_sized (code_min cs) refl
+  code_sized (code_max cs) = number_sized (code_max cs) refl
+  code_sized (code_compare o a b) = whole_sized (code_compare o a b)
+  code_sized (code_divides k a) = whole_sized (code_divides k a)
+  code_sized (code_and a b) = whole_sized (code_and a b)
+  code_sized (code_or a b) = whole_sized (code_or a b)
+  code_sized (code_not a) = whole_sized (code_not a)
+  code_sized (code_union cs) = whole_sized (code_union cs)
+  code_sized (code_inter cs) = whole_sized (code_inter cs)
+  code_sized (code_diff a b) = whole_sized (code_diff a b)
+  code_sized (code_subset a b) = whole_sized (code_subset a b)
+  code_sized (code_card a) = number_sized (code_card a) refl
+  code_sized (code_slice a b c) = whole_sized (code_slice a b c)
+  code_sized (code_fresh a b) = whole_sized (code_fresh a b)
+  code_sized (code_if t a b) = then_sized (either (range_of rs a) (range_of rs b)) (path t env).gives _
+      (λ x. either_sized (range_of rs a) (range_of rs b) (truth_in x) (path a env) (path b env) (code_sized a) (code_sized b))
+  code_sized (code_let first count a b) = whole_sized (code_let first count a b)
+  code_sized (code_solve n arms) = whole_sized (code_solve n arms)
 
 -- ---- what codes give lies in their ranges
 module _ (rs : List Range) (env : List Value) (lie : LieIn rs env) where
@@ -61,7 +153,8 @@ module _ (rs : List Range) (env : List Value) (lie : LieIn rs env) where
     code_in (code_inter cs) = whole_in _ (path_own (code_inter cs) env)
     code_in (code_diff a b) = whole_in _ (path_own (code_diff a b) env)
     code_in (code_subset a b) = whole_in _ (path_own (code_subset a b) env)
-    code_in (code_card a) = then_in _ (path a env) _ (λ x l e. meets_in _ (pos (length (set_in x))) (count_lies (length (set_in x))))
+    code_in (code_card a) = then_in _ (path a env) _ (λ x l e. meets_in _ (pos (length (set_in x)))
+        (size_lies (range_of rs a) (first_of x) (code_sized rs env lie a x e)))
     code_in (code_slice a b c) = whole_in _ (path_own (code_slice a b c) env)
     code_in (code_fresh a b) = whole_in _ (path_own (code_fresh a b) env)
     code_in (code_if t a b) = then_in _ (path t env) _

@@ -5,22 +5,24 @@ use Rattle.std.proofs.lemmas.List.{append_assoc}
 use Rattle.cf_num.specs.Limit.{limit}
 use Rattle.cf_tree.specs.CodeTree.{CodeTree, code_lit, code_truth, code_var, code_set_of, code_tuple, code_sum, code_sub, code_mul, code_neg, code_div, code_mod, code_min, code_max, code_compare, code_divides, code_and, code_or, code_not, code_union, code_inter, code_diff, code_subset, code_card, code_slice, code_fresh, code_if, code_let, code_solve, CodeTrees, no_codes, code_more, let_item, need_item, ItemTrees, no_items, item_more, ArmTree, arm_of, ArmTrees, no_arms, arm_more}
 use Rattle.cf_tree.specs.Meaning.{Got, got, none_at, Path, then_path, path, all_path, set_path, sum_path, best_path, join_path, arms_path, arm_path, meets, meets_all, meets_value, tuple_at, count_below, gives_only, gives_truth, number_in, truth_in}
-use Rattle.cf_tree.specs.Values.{Value, number, truth, elements, number_of}
+use Rattle.cf_tree.specs.Values.{Value, number, truth, elements, number_of, first_of}
 use Rattle.cf_shift.specs.Meeting.{AreSmall}
 use Rattle.cf_shift.proofs.MeetingLaws.{path_own}
 use Rattle.cf_range.specs.declared.range.Range.{Range}
 use Rattle.cf_range.specs.Alike.{Alike, AnswersAlike}
 use Rattle.cf_range.specs.CodeRanges.{range_of}
 use Rattle.cf_range.specs.Put.{put, items_put, all_put}
-use Rattle.cf_range.specs.Ranges.{LiesIn, LieIn, whole}
-use Rattle.cf_range.specs.Settled.{comparison, gives_so_many, items_bind_one, with_wholes, ranges_with, ranges_behind_all, uses, stands_anywhere, may_go, reads_well, goes, Rest, arm_with, rest_uses, rest_put, behind, let_behind, let_settled, lets_dropped, arm_dropped, settled, all_settled, items_settled, arm_each, arm_settled, arms_settled}
+use Rattle.cf_range.specs.Ranges.{LiesIn, IsSized, LieIn, whole}
+use Rattle.cf_range.specs.Settled.{comparison, slice_settled, fresh_settled, union_settled, gives_so_many, items_bind_one, with_wholes, ranges_with, ranges_behind_all, uses, stands_anywhere, may_go, reads_well, goes, Rest, arm_with, rest_uses, rest_put, behind, let_behind, let_settled, lets_dropped, arm_dropped, settled, all_settled, items_settled, arm_each, arm_settled, arms_settled}
 use Rattle.cf_range.specs.Total.{is_total}
-use Rattle.cf_range.proofs.NumberLemmas.{lies_whole}
-use Rattle.cf_range.proofs.RangeLaws.{lie_behind, values_lie, total_codes}
+use Rattle.cf_range.proofs.NumberLemmas.{lies_whole, sized_whole}
+use Rattle.cf_range.proofs.RangeLaws.{lie_rises, lie_behind, code_sized, values_lie, total_codes}
 use Rattle.cf_range.proofs.AlikeLemmas.{both_fit, alike_refl, alike_same, alike_trans, alike_then, alike_one, alike_two, alike_cond, alike_later, alike_first, met_before, either_code}
-use Rattle.cf_range.proofs.ItselfLaws.{comparison_alike}
+use Rattle.cf_range.proofs.ComparisonLaws.{comparison_alike}
 use Rattle.cf_range.proofs.PutLaws.{eq_means, put_alike, rest_alike}
 use Rattle.cf_range.proofs.RestLaws.{give_path, rest_path, let_first, give_alike, none_alike, lets_alike, needs_alike}
+use Rattle.cf_range.proofs.RisenLaws.{AllRise, path_rises, tuple_rises}
+use Rattle.cf_range.proofs.SetLaws.{slice_alike, fresh_alike, union_alike}
 use Rattle.cf_range.proofs.StandsLaws.{stands_same, stands_one, code_counted}
 
 and_true : (a b : Bool) → (a && b) ≡ true → (a ≡ true) × (b ≡ true)
@@ -38,26 +40,27 @@ append_none [] = refl
 append_none (x ∷ xs) = ap (λ ys. x ∷ ys) (append_none xs)
 
 -- ---- ranges of more variables
-lie_wholes : (vs : List Value) (rs : List Range) (env : List Value) (n : ℕ) → length vs ≡ n → AreSmall limit vs → LieIn rs env →
-    LieIn (with_wholes rs n) (env ++ vs)
-lie_wholes [] rs env zero e s lie = subst (LieIn rs) (sym (append_none env)) lie
-lie_wholes [] rs env (suc n) e s lie = absurd (omega (arith, e))
-lie_wholes (v ∷ vs) rs env zero e s lie = absurd (omega (arith, e))
-lie_wholes (v ∷ vs) rs env (suc n) e s lie =
+lie_wholes : (vs : List Value) (rs : List Range) (env : List Value) (n : ℕ) → length vs ≡ n → AreSmall limit vs → AllRise vs →
+    LieIn rs env → LieIn (with_wholes rs n) (env ++ vs)
+lie_wholes [] rs env zero e s r lie = subst (LieIn rs) (sym (append_none env)) lie
+lie_wholes [] rs env (suc n) e s r lie = absurd (omega (arith, e))
+lie_wholes (v ∷ vs) rs env zero e s r lie = absurd (omega (arith, e))
+lie_wholes (v ∷ vs) rs env (suc n) e s r lie =
     subst (LieIn (with_wholes rs (suc n))) (append_assoc env (v ∷ []) vs)
-    (lie_wholes vs (rs ++ whole ∷ []) (env ++ v ∷ []) n (omega (arith, e)) s.1 (lie_behind rs env whole v lie (lies_whole (number_of v) s.0)))
+    (lie_wholes vs (rs ++ whole ∷ []) (env ++ v ∷ []) n (omega (arith, e)) s.1 r.1
+    (lie_behind rs env whole v lie (lies_whole (number_of v) s.0) (sized_whole v r.0)))
 
-lie_one : (xs : List Value) (rs : List Range) (r : Range) (env : List Value) → length xs ≡ 1 → LiesIn r (number_in xs) → LieIn rs env →
-    LieIn (rs ++ r ∷ []) (env ++ xs)
-lie_one [] rs r env e l lie = absurd (omega (arith, e))
-lie_one (v ∷ []) rs r env e l lie = lie_behind rs env r v lie l
-lie_one (v ∷ u ∷ xs) rs r env e l lie = absurd (omega (arith, e))
+lie_one : (xs : List Value) (rs : List Range) (r : Range) (env : List Value) → length xs ≡ 1 → LiesIn r (number_in xs) →
+    IsSized r (first_of xs) → LieIn rs env → LieIn (rs ++ r ∷ []) (env ++ xs)
+lie_one [] rs r env e l s lie = absurd (omega (arith, e))
+lie_one (v ∷ []) rs r env e l s lie = lie_behind rs env r v lie l s
+lie_one (v ∷ u ∷ xs) rs r env e l s lie = absurd (omega (arith, e))
 
 lie_length : (rs : List Range) (env : List Value) → LieIn rs env → length env ≡ length rs
 lie_length [] [] lie = refl
 lie_length [] (v ∷ env) lie = absurd lie
 lie_length (r ∷ rs) [] lie = absurd lie
-lie_length (r ∷ rs) (v ∷ env) lie = ap suc (lie_length rs env lie.1)
+lie_length (r ∷ rs) (v ∷ env) lie = ap suc (lie_length rs env lie.2)
 
 either_ranges : (t : Bool) (rs ss : List Range) (env : List Value) → (t ≡ true → LieIn rs env) → (t ≡ false → LieIn ss env) → LieIn (cond t rs ss) env
 either_ranges true rs ss env h k = h refl
@@ -67,14 +70,14 @@ either_ranges false rs ss env h k = k refl
 module _ (rs : List Range) (c : CodeTree) (env : List Value) (lie : LieIn rs env) (xs : List Value) (e : (path c env).gives ≡ got xs)
     (l : (path c env).peak ≤ limit) where
   lie_item : gives_so_many 1 c ≡ true → LieIn (rs ++ range_of rs c ∷ []) (env ++ xs)
-  lie_item t = lie_one xs rs (range_of rs c) env (code_counted 1 c env t xs e) (values_lie rs c env xs lie l e) lie
+  lie_item t = lie_one xs rs (range_of rs c) env (code_counted 1 c env t xs e) (values_lie rs c env xs lie l e) (code_sized rs env lie c xs e) lie
 
   lie_with : (n : ℕ) → gives_so_many n c ≡ true → LieIn (ranges_with rs n c) (env ++ xs)
   lie_with n t =
       let k = code_counted n c env t xs e in
       either_ranges (nat_eq n 1) (rs ++ range_of rs c ∷ []) (with_wholes rs n) (env ++ xs)
-      (λ o. lie_one xs rs (range_of rs c) env (k ∙ eq_means n 1 o) (values_lie rs c env xs lie l e) lie)
-      (λ o. lie_wholes xs rs env n k (path_own c env limit l xs e) lie)
+      (λ o. lie_one xs rs (range_of rs c) env (k ∙ eq_means n 1 o) (values_lie rs c env xs lie l e) (code_sized rs env lie c xs e) lie)
+      (λ o. lie_wholes xs rs env n k (path_own c env limit l xs e) (path_rises c env (lie_rises rs env lie) xs e) lie)
 
 -- behind searches
 tuple_length : (bounds : List ℕ) (i : ℕ) → length (tuple_at bounds i) ≡ length bounds
@@ -99,7 +102,7 @@ lie_searches : (rs : List Range) (env : List Value) (bounds : List ℕ) (i : ℕ
     (meets_all (tuple_at bounds i)).gives ≡ got vs → (meets_all (tuple_at bounds i)).peak ≤ limit → LieIn (with_wholes rs (length bounds)) (env ++ vs)
 lie_searches rs env bounds i vs lie e l =
     let b = searches_bound (tuple_at bounds i) vs l e in
-    lie_wholes vs rs env (length bounds) (b.0 ∙ tuple_length bounds i) b.1 lie
+    lie_wholes vs rs env (length bounds) (b.0 ∙ tuple_length bounds i) b.1 (tuple_rises (tuple_at bounds i) vs e) lie
 
 -- ---- a value in the place of its variable
 value_meets : (v : Value) → unsigned_abs (number_of v) ≤ limit → ((meets_value v).peak ≤ limit) × ((meets_value v).gives ≡ got (v ∷ []))
@@ -242,14 +245,23 @@ mutual
   settled_alike rs (code_or a b) env lie = alike_then (from a env) (to rs a env) _ _ (settled_alike rs a env lie)
       (λ x e l. alike_cond (truth_in x) (gives_truth true) (gives_truth true) (from b env) (to rs b env) (alike_refl (gives_truth true)) (settled_alike rs b env lie))
   settled_alike rs (code_not a) env lie = alike_one (from a env) (to rs a env) _ (settled_alike rs a env lie)
-  settled_alike rs (code_union cs) env lie = join_alike rs _ cs env None lie
+  settled_alike rs (code_union cs) env lie =
+      alike_trans (path (code_union cs) env) (path (code_union (all_settled rs cs)) env) (path (union_settled (all_settled rs cs)) env)
+      (join_alike rs _ cs env None lie) (union_alike rs (all_settled rs cs) env lie)
   settled_alike rs (code_inter cs) env lie = join_alike rs _ cs env None lie
   settled_alike rs (code_diff a b) env lie = alike_two (from a env) (to rs a env) (from b env) (to rs b env) _ (settled_alike rs a env lie) (settled_alike rs b env lie)
   settled_alike rs (code_subset a b) env lie = alike_two (from a env) (to rs a env) (from b env) (to rs b env) _ (settled_alike rs a env lie) (settled_alike rs b env lie)
   settled_alike rs (code_card a) env lie = alike_one (from a env) (to rs a env) _ (settled_alike rs a env lie)
-  settled_alike rs (code_slice a b c) env lie = alike_then (from a env) (to rs a env) _ _ (settled_alike rs a env lie)
-      (λ x e l. alike_two (from b env) (to rs b env) (from c env) (to rs c env) _ (settled_alike rs b env lie) (settled_alike rs c env lie))
-  settled_alike rs (code_fresh a b) env lie = alike_two (from a env) (to rs a env) (from b env) (to rs b env) _ (settled_alike rs a env lie) (settled_alike rs b env lie)
+  settled_alike rs (code_slice a b c) env lie =
+      alike_trans (path (code_slice a b c) env) (path (code_slice (settled rs a) (settled rs b) (settled rs c)) env)
+      (path (slice_settled rs (settled rs a) (settled rs b) (settled rs c)) env)
+      (alike_then (from a env) (to rs a env) _ _ (settled_alike rs a env lie)
+      (λ x e l. alike_two (from b env) (to rs b env) (from c env) (to rs c env) _ (settled_alike rs b env lie) (settled_alike rs c env lie)))
+      (slice_alike rs (settled rs a) (settled rs b) (settled rs c) env lie)
+  settled_alike rs (code_fresh a b) env lie =
+      alike_trans (path (code_fresh a b) env) (path (code_fresh (settled rs a) (settled rs b)) env) (path (fresh_settled rs (settled rs a) (settled rs b)) env)
+      (alike_two (from a env) (to rs a env) (from b env) (to rs b env) _ (settled_alike rs a env lie) (settled_alike rs b env lie))
+      (fresh_alike rs (settled rs a) (settled rs b) env lie)
   settled_alike rs (code_if s a b) env lie = alike_then (from s env) (to rs s env) _ _ (settled_alike rs s env lie)
       (λ x e l. alike_cond (truth_in x) (from a env) (to rs a env) (from b env) (to rs b env) (settled_alike rs a env lie) (settled_alike rs b env lie))
   settled_alike rs (code_let first n a b) env lie = alike_trans (path (code_let first n a b) env) (path (code_let first n (settled rs a) (body_settled rs n a b)) env)

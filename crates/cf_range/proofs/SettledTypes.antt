@@ -11,9 +11,10 @@ use Rattle.cf_range.specs.Put.{put}
 use Rattle.cf_range.specs.Ranges.{whole}
 use Rattle.cf_range.specs.Settled.{gives_so_many, items_bind_one, with_wholes, ranges_with, ranges_behind_all, uses, stands_anywhere, may_go, reads_well, goes, Rest, arm_with, rest_uses, rest_put, behind, let_behind, let_settled, lets_dropped, arm_dropped, settled, all_settled, items_settled, arm_each, arms_settled}
 use Rattle.cf_range.specs.Total.{is_total}
-use Rattle.cf_range.proofs.ItselfLaws.{comparison_free, comparison_typed}
+use Rattle.cf_range.proofs.ComparisonLaws.{comparison_free, comparison_typed}
 use Rattle.cf_range.proofs.PutLaws.{eq_means}
 use Rattle.cf_range.proofs.PutTypes.{either_free, either_typed, put_free, all_put_free, items_put_free, put_typed, items_typed}
+use Rattle.cf_range.proofs.SetLaws.{slice_free, fresh_free, union_free, slice_typed, fresh_typed, union_typed}
 use Rattle.cf_range.proofs.StandsLaws.{stands_free, stands_typed, stands_asked}
 
 and_true : (a b : Bool) → (a && b) ≡ true → (a ≡ true) × (b ≡ true)
@@ -137,13 +138,13 @@ mutual
   settled_free rs (code_and a b) h = (settled_free rs a h.0, settled_free rs b h.1)
   settled_free rs (code_or a b) h = (settled_free rs a h.0, settled_free rs b h.1)
   settled_free rs (code_not a) h = settled_free rs a h
-  settled_free rs (code_union cs) h = all_settled_free rs cs h
+  settled_free rs (code_union cs) h = union_free (all_settled rs cs) (all_settled_free rs cs h)
   settled_free rs (code_inter cs) h = all_settled_free rs cs h
   settled_free rs (code_diff a b) h = (settled_free rs a h.0, settled_free rs b h.1)
   settled_free rs (code_subset a b) h = (settled_free rs a h.0, settled_free rs b h.1)
   settled_free rs (code_card a) h = settled_free rs a h
-  settled_free rs (code_slice a b c) h = (settled_free rs a h.0, settled_free rs b h.1, settled_free rs c h.2)
-  settled_free rs (code_fresh a b) h = (settled_free rs a h.0, settled_free rs b h.1)
+  settled_free rs (code_slice a b c) h = slice_free rs (settled rs a) (settled rs b) (settled rs c) (settled_free rs a h.0, settled_free rs b h.1, settled_free rs c h.2)
+  settled_free rs (code_fresh a b) h = fresh_free rs (settled rs a) (settled rs b) (settled_free rs a h.0, settled_free rs b h.1)
   settled_free rs (code_if s a b) h = (settled_free rs s h.0, settled_free rs a h.1, settled_free rs b h.2)
   settled_free rs (code_let first k a b) h = let_free rs first k (settled rs a) (cond (gives_so_many k a) (settled (ranges_with rs k a) b) b) (settled_free rs a h.0)
       (either_free (gives_so_many k a) (settled (ranges_with rs k a) b) b (settled_free (ranges_with rs k a) b h.1) h.1)
@@ -229,13 +230,16 @@ mutual
   settled_keeps rs (code_and a b) scope asked bs e h = (settled_keeps rs a scope (ask Truth) (one Truth) e h.0, settled_keeps rs b scope (ask Truth) (one Truth) e h.1, h.2)
   settled_keeps rs (code_or a b) scope asked bs e h = (settled_keeps rs a scope (ask Truth) (one Truth) e h.0, settled_keeps rs b scope (ask Truth) (one Truth) e h.1, h.2)
   settled_keeps rs (code_not a) scope asked bs e h = (settled_keeps rs a scope (ask Truth) (one Truth) e h.0, h.1)
-  settled_keeps rs (code_union cs) scope asked bs e h = (at_least 2 rs cs h.0, all_keep rs cs scope Set e h.1, h.2)
+  settled_keeps rs (code_union cs) scope asked bs e h =
+      union_typed (all_settled rs cs) scope asked bs (at_least 2 rs cs h.0, all_keep rs cs scope Set e h.1, h.2)
   settled_keeps rs (code_inter cs) scope asked bs e h = (at_least 2 rs cs h.0, all_keep rs cs scope Set e h.1, h.2)
   settled_keeps rs (code_diff a b) scope asked bs e h = (settled_keeps rs a scope (ask Set) (one Set) e h.0, settled_keeps rs b scope (ask Set) (one Set) e h.1, h.2)
   settled_keeps rs (code_subset a b) scope asked bs e h = (settled_keeps rs a scope (ask Set) (one Set) e h.0, settled_keeps rs b scope (ask Set) (one Set) e h.1, h.2)
   settled_keeps rs (code_card a) scope asked bs e h = (settled_keeps rs a scope (ask Set) (one Set) e h.0, h.1)
-  settled_keeps rs (code_slice a b c) scope asked bs e h = (settled_keeps rs a scope (ask Set) (one Set) e h.0, settled_keeps rs b scope (ask Int) (one Int) e h.1, settled_keeps rs c scope (ask Int) (one Int) e h.2, h.3)
-  settled_keeps rs (code_fresh a b) scope asked bs e h = (settled_keeps rs a scope (ask Set) (one Set) e h.0, settled_keeps rs b scope (ask Int) (one Int) e h.1, h.2)
+  settled_keeps rs (code_slice a b c) scope asked bs e h = slice_typed rs (settled rs a) (settled rs b) (settled rs c) scope asked bs
+      (settled_keeps rs a scope (ask Set) (one Set) e h.0, settled_keeps rs b scope (ask Int) (one Int) e h.1, settled_keeps rs c scope (ask Int) (one Int) e h.2, h.3)
+  settled_keeps rs (code_fresh a b) scope asked bs e h = fresh_typed rs (settled rs a) (settled rs b) scope asked bs
+      (settled_keeps rs a scope (ask Set) (one Set) e h.0, settled_keeps rs b scope (ask Int) (one Int) e h.1, h.2)
   settled_keeps rs (code_if s a b) scope asked bs e h = (settled_keeps rs s scope (ask Truth) (one Truth) e h.0, settled_keeps rs a scope asked bs e h.1, settled_keeps rs b scope asked bs e h.2)
   settled_keeps rs (code_let first k a b) scope asked bs e h = let_typed rs first k (settled rs a) (cond (gives_so_many k a) (settled (ranges_with rs k a) b) b) scope asked bs e (
     h.0,

@@ -43,7 +43,8 @@ module _ (front back : List Value) where
     stands_same (code_lit k) t = refl
     stands_same (code_truth u) t = refl
     stands_same (code_var y) t = ap meets_value (get_or_before front back y (lt_means y (length front) t))
-    stands_same (code_set_of cs) t = absurd (no_truth t)
+    stands_same (code_set_of no_codes) t = refl
+    stands_same (code_set_of (code_more c cs)) t = absurd (no_truth t)
     stands_same (code_tuple cs) t = absurd (no_truth t)
     stands_same (code_sum cs) t = sum_same cs (pos 0) t
     stands_same (code_sub a b) t = let q = and_true _ _ t in then_same _ _ _ _ (stands_same a q.0) (λ x. then_same _ _ _ _ (stands_same b q.1) (λ y. refl))
@@ -90,7 +91,8 @@ mutual
   stands_free n (code_lit k) t = tt
   stands_free n (code_truth u) t = tt
   stands_free n (code_var y) t = tt
-  stands_free n (code_set_of cs) t = absurd (no_truth t)
+  stands_free n (code_set_of no_codes) t = tt
+  stands_free n (code_set_of (code_more c cs)) t = absurd (no_truth t)
   stands_free n (code_tuple cs) t = absurd (no_truth t)
   stands_free n (code_sum cs) t = all_stand_free n cs t
   stands_free n (code_sub a b) t = let q = and_true _ _ t in (stands_free n a q.0, stands_free n b q.1)
@@ -127,7 +129,8 @@ module _ (front back : List Base) where
     stands_typed (code_lit k) asked bs t h = h
     stands_typed (code_truth u) asked bs t h = h
     stands_typed (code_var y) asked bs t h = (h.0, get_before front back y (lt_means y (length front) t) ∙ h.1, h.2)
-    stands_typed (code_set_of cs) asked bs t h = absurd (no_truth t)
+    stands_typed (code_set_of no_codes) asked bs t h = h
+    stands_typed (code_set_of (code_more c cs)) asked bs t h = absurd (no_truth t)
     stands_typed (code_tuple cs) asked bs t h = absurd (no_truth t)
     stands_typed (code_sum cs) asked bs t h = (h.0, all_stand_typed cs t h.1, h.2)
     stands_typed (code_sub a b) asked bs t h = let q = and_true _ _ t in
@@ -166,7 +169,8 @@ pub stands_asked : (n : ℕ) (c : CodeTree) (scope : List Base) (asked : Option 
 stands_asked n (code_lit k) scope asked bs t m h = (h.0, m)
 stands_asked n (code_truth u) scope asked bs t m h = (h.0, m)
 stands_asked n (code_var y) scope asked bs t m h = (h.0, h.1, (h.2.0, m))
-stands_asked n (code_set_of cs) scope asked bs t m h = absurd (no_truth t)
+stands_asked n (code_set_of no_codes) scope asked bs t m h = (h.0, (h.1.0, m))
+stands_asked n (code_set_of (code_more c cs)) scope asked bs t m h = absurd (no_truth t)
 stands_asked n (code_tuple cs) scope asked bs t m h = absurd (no_truth t)
 stands_asked n (code_sum cs) scope asked bs t m h = (h.0, h.1, (h.2.0, m))
 stands_asked n (code_sub a b) scope asked bs t m h = (h.0, h.1, (h.2.0, m))
@@ -348,7 +352,8 @@ pub stands_one : (n : ℕ) (c : CodeTree) → stands_anywhere n c ≡ true → g
 stands_one n (code_lit k) t = refl
 stands_one n (code_truth u) t = refl
 stands_one n (code_var y) t = refl
-stands_one n (code_set_of cs) t = absurd (no_truth t)
+stands_one n (code_set_of no_codes) t = refl
+stands_one n (code_set_of (code_more c cs)) t = absurd (no_truth t)
 stands_one n (code_tuple cs) t = absurd (no_truth t)
 stands_one n (code_sum cs) t = refl
 stands_one n (code_sub a b) t = refl

@@ -1,9 +1,8 @@
 -- Between which numbers a code gives, by the ranges of its variables, where no number that it meets is past the limit.
 use Rattle.std.specs.Prelude.{pos, Bool, true, false, List, [], ◌∷◌}
 use Rattle.std.specs.Int.{int_min, int_max}
-use Rattle.cf_num.specs.Limit.{limit}
 use Rattle.cf_tree.specs.CodeTree.{CodeTree, code_lit, code_var, code_sum, code_sub, code_mul, code_neg, code_div, code_mod, code_min, code_max, code_card, code_fresh, code_if, code_solve, CodeTrees, no_codes, code_more}
-use Rattle.cf_range.specs.Ranges.{between, whole, range_at, nearest, passes, plus_all, minus, times, negated, divided, left_by, best_of, either, plus_all_passes, minus_passes, times_passes}
+use Rattle.cf_range.specs.Ranges.{between, whole, range_at, nearest, passes, plus_all, minus, times, negated, divided, left_by, best_of, either, sizes, plus_all_passes, minus_passes, times_passes}
 use Rattle.cf_range.specs.declared.range.Range.{Range}
 
 abbrev mutual
@@ -19,7 +18,7 @@ abbrev mutual
   range_of rs (code_mod a k) = left_by (range_of rs a) k
   range_of rs (code_min cs) = best_of int_min (ranges_of rs cs)
   range_of rs (code_max cs) = best_of int_max (ranges_of rs cs)
-  range_of rs (code_card a) = between (pos 0) (pos limit)
+  range_of rs (code_card a) = sizes (range_of rs a)
   range_of rs (code_if t a b) = either (range_of rs a) (range_of rs b)
   range_of rs c = whole
 

@@ -1,9 +1,10 @@
 -- Between which numbers something lies, and what arithmetic makes of that.
-use Rattle.std.specs.Prelude.{ℕ, ℤ, pos, neg_ℤ, ◌+ℤ◌, ◌-ℤ◌, ◌*ℤ◌, ◌≤ℤ◌, int_lt, unsigned_abs, nat_lt, Bool, true, false, Option, Some, None, ◌||◌, List, [], ◌∷◌, slice_index_or, if◌then◌else◌}
+use Rattle.std.specs.Prelude.{ℕ, ℤ, pos, neg_ℤ, ◌+ℤ◌, ◌-ℤ◌, ◌*ℤ◌, ◌≤ℤ◌, int_lt, unsigned_abs, nat_lt, Bool, true, false, Option, Some, None, ◌||◌, List, [], ◌∷◌, length, slice_index_or, if◌then◌else◌}
 use Rattle.std.specs.Int.{int_min, int_max}
 use Rattle.cf_num.specs.Limit.{limit, IsWithin}
 use Rattle.cf_tree.specs.Numbers.{quotient}
-use Rattle.cf_tree.specs.Values.{Value, number_of}
+use Rattle.cf_tree.specs.Sets.{IsRising}
+use Rattle.cf_tree.specs.Values.{Value, number, truth, elements, number_of}
 use Rattle.cf_range.specs.declared.range.Range.{Range}
 
 abbrev pub between : ℤ → ℤ → Range
@@ -17,13 +18,6 @@ whole = between (neg_ℤ (pos limit)) (pos limit)
 abbrev pub LiesIn : Range → ℤ → Type 0
 LiesIn r z = IsWithin z × (r.low ≤ℤ z) × (z ≤ℤ r.high)
 
--- one range for each value, in which it lies; what is no number counts as 0
-abbrev pub LieIn : List Range → List Value → Type 0
-LieIn [] [] = Unit {0}
-LieIn [] (v ∷ vs) = ⊥
-LieIn (r ∷ rs) [] = ⊥
-LieIn (r ∷ rs) (v ∷ vs) = LiesIn r (number_of v) × LieIn rs vs
-
 -- the range of a variable, by its level
 abbrev pub range_at : List Range → ℕ → Range
 range_at rs x = slice_index_or rs x whole
@@ -35,6 +29,19 @@ passes z = nat_lt limit (unsigned_abs z)
 -- the nearest number within the limit
 abbrev pub nearest : ℤ → ℤ
 nearest z = int_max (neg_ℤ (pos limit)) (int_min (pos limit) z)
+
+-- a set is a rising list, of at most as many elements as the range ends at; one that ends at the limit allows any number
+abbrev pub IsSized : Range → Value → Type 0
+IsSized r (number z) = Unit {0}
+IsSized r (truth b) = Unit {0}
+IsSized r (elements zs) = IsRising zs × (nearest (pos (length zs)) ≤ℤ r.high)
+
+-- one range for each value, in which it lies; what is no number counts as 0, and a set also by its size
+abbrev pub LieIn : List Range → List Value → Type 0
+LieIn [] [] = Unit {0}
+LieIn [] (v ∷ vs) = ⊥
+LieIn (r ∷ rs) [] = ⊥
+LieIn (r ∷ rs) (v ∷ vs) = LiesIn r (number_of v) × IsSized r v × LieIn rs vs
 
 -- the range of sums, differences and products of numbers of two ranges, cut at the limit
 abbrev pub plus : Range → Range → Range
@@ -78,6 +85,10 @@ negated r = between (nearest (neg_ℤ r.high)) (nearest (neg_ℤ r.low))
 
 abbrev pub divided : Range → ℤ → Range
 divided r k = between (quotient r.low k) (quotient r.high k)
+
+-- how many elements sets have
+abbrev pub sizes : Range → Range
+sizes r = between (pos 0) (int_max (pos 0) r.high)
 
 -- what division by k leaves: from 0 to k - 1, and all of it where k is no divisor
 abbrev pub left_by : Range → ℤ → Range

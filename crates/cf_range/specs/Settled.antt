@@ -1,13 +1,14 @@
 -- What settling makes of a code: a let goes whose value can be evaluated anywhere, where that reads better: a leaf, a negated variable, or a
--- short value that stands at most once. A comparison of a variable, or of a numeral, with itself is decided.
-use Rattle.std.specs.Prelude.{ℕ, zero, suc, ℤ, ◌+◌, nat_eq, nat_lt, Bool, true, false, ◌&&◌, ◌||◌, List, [], ◌∷◌, ◌++◌, length, if◌then◌else◌}
-use Rattle.std.specs.Ordering.{int_eq}
+-- short value that stands at most once. A comparison is decided of a variable with itself, and where the ranges of both sides tell. A slice
+-- without elements, and no fresh numbers, are the empty set, which goes out of unions.
+use Rattle.std.specs.Prelude.{ℕ, zero, suc, ◌+◌, nat_eq, nat_lt, int_lt, Bool, true, false, not, ◌&&◌, ◌||◌, Option, Some, None, List, [], ◌∷◌, ◌++◌, length, if◌then◌else◌}
 use Rattle.cf_tree.specs.declared.base.Order.{Order}
 use Rattle.cf_tree.specs.declared.base.Order.TheVariants.{Eq, Ne, Lt, Le, Gt, Ge}
 use Rattle.cf_tree.specs.CodeTree.{CodeTree, code_lit, code_truth, code_var, code_set_of, code_tuple, code_sum, code_sub, code_mul, code_neg, code_div, code_mod, code_min, code_max, code_compare, code_divides, code_and, code_or, code_not, code_union, code_inter, code_diff, code_subset, code_card, code_slice, code_fresh, code_if, code_let, code_solve, CodeTrees, no_codes, code_more, ItemTree, let_item, need_item, ItemTrees, no_items, item_more, ArmTree, arm_of, ArmTrees, no_arms, arm_more, count}
 use Rattle.cf_range.specs.CodeRanges.{range_of}
 use Rattle.cf_range.specs.Put.{put, all_put, items_put}
 use Rattle.cf_range.specs.Ranges.{whole}
+use Rattle.cf_range.specs.Tidied.{is_zero}
 use Rattle.cf_range.specs.Total.{is_total}
 use Rattle.cf_range.specs.declared.range.Range.{Range}
 
@@ -129,13 +130,26 @@ abbrev mutual
 abbrev pub give_uses : ℕ → CodeTree → ℕ
 give_uses x c = if is_var x c then 9 else uses x c
 
+-- ---- the empty set
+abbrev pub empty : CodeTree
+empty = code_set_of no_codes
+
+abbrev pub are_none : CodeTrees → Bool
+are_none no_codes = true
+are_none (code_more c cs) = false
+
+abbrev pub is_empty : CodeTree → Bool
+is_empty (code_set_of cs) = are_none cs
+is_empty c = false
+
 -- ---- what may stand in the place of its variable
 abbrev mutual
-  -- a number form, or a truth value, over literals and variables of levels below n
+  -- a number form, a truth value or the empty set, over literals and variables of levels below n
   pub stands_anywhere : ℕ → CodeTree → Bool
   stands_anywhere n (code_lit k) = true
   stands_anywhere n (code_truth t) = true
   stands_anywhere n (code_var x) = nat_lt x n
+  stands_anywhere n (code_set_of cs) = are_none cs
   stands_anywhere n (code_sum cs) = all_stand_anywhere n cs
   stands_anywhere n (code_sub a b) = stands_anywhere n a && stands_anywhere n b
   stands_anywhere n (code_mul a b) = stands_anywhere n a && stands_anywhere n b
@@ -183,21 +197,17 @@ abbrev pub reads_well : ℕ → CodeTree → Bool
 reads_well n (code_lit k) = true
 reads_well n (code_truth t) = true
 reads_well n (code_var x) = true
+reads_well n (code_set_of cs) = are_none cs
 reads_well n (code_neg a) = nat_lt n 2 && nat_lt (weight (code_neg a)) 15 || nat_lt n 9 && is_any_var a
 reads_well n c = nat_lt n 2 && nat_lt (weight c) 15
 
 abbrev pub goes : List Range → CodeTree → ℕ → Bool
 goes rs v n = may_go rs v && reads_well n v
 
--- ---- a comparison of a code with itself
-abbrev pub is_lit : ℤ → CodeTree → Bool
-is_lit k (code_lit j) = int_eq k j
-is_lit k c = false
-
--- whether two codes are one variable, or one numeral
+-- ---- a comparison that is decided
+-- whether both are one variable
 abbrev pub are_one : CodeTree → CodeTree → Bool
 are_one (code_var x) b = is_var x b
-are_one (code_lit k) b = is_lit k b
 are_one a b = false
 
 -- what a comparison says of a value and itself
@@ -209,9 +219,102 @@ holds_of_itself Le = true
 holds_of_itself Gt = false
 holds_of_itself Ge = true
 
--- a comparison, decided where both sides are one that can be evaluated anywhere
+-- whether each number of the one range is less than each of the other, and whether none is
+abbrev pub is_below : Range → Range → Bool
+is_below r s = int_lt r.high s.low
+
+abbrev pub is_nowhere_below : Range → Range → Bool
+is_nowhere_below r s = not (int_lt r.low s.high)
+
+-- whether a comparison holds of all numbers of two ranges
+abbrev pub holds_always : Order → Range → Range → Bool
+holds_always Eq r s = is_nowhere_below r s && is_nowhere_below s r
+holds_always Ne r s = is_below r s || is_below s r
+holds_always Lt r s = is_below r s
+holds_always Le r s = is_nowhere_below s r
+holds_always Gt r s = is_below s r
+holds_always Ge r s = is_nowhere_below r s
+
+-- the order that holds where this one does not
+abbrev pub other_order : Order → Order
+other_order Eq = Ne
+other_order Ne = Eq
+other_order Lt = Ge
+other_order Le = Gt
+other_order Gt = Le
+other_order Ge = Lt
+
+-- what two ranges tell of a comparison
+abbrev pub told_by : Order → Range → Range → Option Bool
+told_by o r s = if holds_always o r s then Some true else if holds_always (other_order o) r s then Some false else None
+
+-- whether a code gives a number wherever it gives
+abbrev pub gives_number : CodeTree → Bool
+gives_number (code_lit k) = true
+gives_number (code_sum cs) = true
+gives_number (code_sub a b) = true
+gives_number (code_mul a b) = true
+gives_number (code_neg a) = true
+gives_number (code_div a k) = true
+gives_number (code_mod a k) = true
+gives_number (code_min cs) = true
+gives_number (code_max cs) = true
+gives_number (code_card a) = true
+gives_number c = false
+
+-- == and != compare sets and truth values as well, of which ranges tell nothing
+abbrev pub compares_numbers : Order → CodeTree → Bool
+compares_numbers Eq a = gives_number a
+compares_numbers Ne a = gives_number a
+compares_numbers o a = true
+
+-- what is known of a comparison of two codes that can be evaluated anywhere
+abbrev pub known : List Range → Order → CodeTree → CodeTree → Option Bool
+known rs o a b =
+    if are_one a b then Some (holds_of_itself o) else if compares_numbers o a then told_by o (range_of rs a) (range_of rs b) else None
+
+abbrev pub told : List Range → Order → CodeTree → CodeTree → Option Bool
+told rs o a b = if is_total rs a && is_total rs b then known rs o a b else None
+
+abbrev pub compared_as : Option Bool → Order → CodeTree → CodeTree → CodeTree
+compared_as None o a b = code_compare o a b
+compared_as (Some t) o a b = code_truth t
+
+-- a comparison, decided where the two sides tell
 abbrev pub comparison : List Range → Order → CodeTree → CodeTree → CodeTree
-comparison rs o a b = if are_one a b && is_total rs a then code_truth (holds_of_itself o) else code_compare o a b
+comparison rs o a b = compared_as (told rs o a b) o a b
+
+-- ---- sets that are empty
+-- no elements, and no fresh numbers, where the parts that go can be evaluated anywhere
+abbrev pub slice_settled : List Range → CodeTree → CodeTree → CodeTree → CodeTree
+slice_settled rs a b c = if is_zero c && is_total rs a && is_total rs b then empty else code_slice a b c
+
+abbrev pub fresh_settled : List Range → CodeTree → CodeTree → CodeTree
+fresh_settled rs a b = if is_zero b && is_total rs a then empty else code_fresh a b
+
+-- the parts of a union but those that are the empty set
+abbrev pub nonempty : CodeTrees → CodeTrees
+nonempty no_codes = no_codes
+nonempty (code_more c cs) = if is_empty c then nonempty cs else code_more c (nonempty cs)
+
+-- whether a code gives a set wherever it gives
+abbrev pub is_set_form : CodeTree → Bool
+is_set_form (code_set_of cs) = true
+is_set_form (code_union cs) = true
+is_set_form (code_inter cs) = true
+is_set_form (code_diff a b) = true
+is_set_form (code_slice a b c) = true
+is_set_form (code_fresh a b) = true
+is_set_form c = false
+
+-- a union of none is the empty set, and of one set form that form; another one stands with the empty set, since a union has two parts
+abbrev pub union_of : CodeTrees → CodeTree
+union_of no_codes = empty
+union_of (code_more c no_codes) = if is_set_form c then c else code_union (code_more c (code_more empty no_codes))
+union_of (code_more c (code_more d cs)) = code_union (code_more c (code_more d cs))
+
+abbrev pub union_settled : CodeTrees → CodeTree
+union_settled cs = union_of (nonempty cs)
 
 -- ---- the code
 -- what is left of an arm from some item on
@@ -283,13 +386,13 @@ abbrev mutual
   settled rs (code_and a b) = code_and (settled rs a) (settled rs b)
   settled rs (code_or a b) = code_or (settled rs a) (settled rs b)
   settled rs (code_not a) = code_not (settled rs a)
-  settled rs (code_union cs) = code_union (all_settled rs cs)
+  settled rs (code_union cs) = union_settled (all_settled rs cs)
   settled rs (code_inter cs) = code_inter (all_settled rs cs)
   settled rs (code_diff a b) = code_diff (settled rs a) (settled rs b)
   settled rs (code_subset a b) = code_subset (settled rs a) (settled rs b)
   settled rs (code_card a) = code_card (settled rs a)
-  settled rs (code_slice a b c) = code_slice (settled rs a) (settled rs b) (settled rs c)
-  settled rs (code_fresh a b) = code_fresh (settled rs a) (settled rs b)
+  settled rs (code_slice a b c) = slice_settled rs (settled rs a) (settled rs b) (settled rs c)
+  settled rs (code_fresh a b) = fresh_settled rs (settled rs a) (settled rs b)
   settled rs (code_if a b c) = code_if (settled rs a) (settled rs b) (settled rs c)
   settled rs (code_let first n a b) =
       let_settled rs first n (settled rs a) (if gives_so_many n a then settled (ranges_with rs n a) b else b)

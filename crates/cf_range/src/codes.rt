@@ -25,7 +25,7 @@ pub fn range_of(ranges: &[Range], code: &Code) -> Range
         Code::Mod { of, k } => range_of(ranges, of).left_by(*k),
         Code::Min(parts) => least_of(ranges, parts),
         Code::Max(parts) => greatest_of(ranges, parts),
-        Code::Card(_) => Range::count(),
+        Code::Card(of) => range_of(ranges, of).sizes(),
         Code::If { yes, no, .. } => range_of(ranges, yes).either(range_of(ranges, no)),
         _ => Range::whole(),
     }

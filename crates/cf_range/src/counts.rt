@@ -2,7 +2,7 @@
 ghost use Rattle.std.specs.Prelude.{◌≡◌, ◌≤◌, ◌&&◌, nat_eq, nat_lt, length};
 ghost use Rattle.cf_tree.specs.CodeTree.{count};
 ghost use Rattle.cf_tree.specs.CodeView.{code_tree, item_tree, arm_tree, code_trees, item_trees, arm_trees};
-ghost use Rattle.cf_range.specs.Settled.{gives_so_many, each_gives_one, arm_gives_so_many, arms_give_so_many, item_binds_one, items_bind_one, up_to, is_var, uses, all_use, give_uses, gives_use, item_uses, items_use, arm_uses, arms_use, stands_anywhere, all_stand_anywhere, weight, weights, is_any_var, reads_well, may_go, goes};
+ghost use Rattle.cf_range.specs.Settled.{gives_so_many, each_gives_one, arm_gives_so_many, arms_give_so_many, item_binds_one, items_bind_one, up_to, are_none, is_var, uses, all_use, give_uses, gives_use, item_uses, items_use, arm_uses, arms_use, stands_anywhere, all_stand_anywhere, weight, weights, is_any_var, reads_well, may_go, goes};
 
 use crate::range::Range;
 use crate::total::is_total;
@@ -206,7 +206,17 @@ fn arms_use(level: usize, arms: &[Arm], n: u32) -> u32
     sum
 }
 
-// Whether the code is a number form, or a truth value, over variables of levels below n.
+/// Whether the list is empty.
+pub(crate) fn are_none(parts: &[Code]) -> bool
+    ensures { result ≡ are_none (code_trees parts.now) }
+{
+    match parts.first() {
+        Some(_) => false,
+        None => true,
+    }
+}
+
+// Whether the code is a number form, a truth value or the empty set, over variables of levels below n.
 #[cycle(stands)]
 fn stands_anywhere(n: usize, code: &Code) -> bool
     ensures { result ≡ stands_anywhere n (code_tree code.now) }
@@ -214,6 +224,7 @@ fn stands_anywhere(n: usize, code: &Code) -> bool
     match code {
         Code::Lit(_) | Code::Truth(_) => true,
         Code::Var(x) => (*x as usize) < n,
+        Code::SetOf(parts) => are_none(parts),
         Code::Sum(parts) | Code::Min(parts) | Code::Max(parts) => all_stand_anywhere(n, parts),
         Code::Sub(a, b) | Code::Mul(a, b) => stands_anywhere(n, a) && stands_anywhere(n, b),
         Code::Neg(of) | Code::Div { of, .. } | Code::Mod { of, .. } => stands_anywhere(n, of),
@@ -278,6 +289,7 @@ fn reads_well(n: u32, code: &Code) -> bool
 {
     match code {
         Code::Lit(_) | Code::Truth(_) | Code::Var(_) => true,
+        Code::SetOf(parts) => are_none(parts),
         Code::Neg(of) => is_short(n, code) || is_often_var(n, of),
         _ => is_short(n, code),
     }

@@ -4,12 +4,13 @@
 ghost use Rattle.cf_range.specs.RangeLaws.{ValuesLieInRanges, NeedNoChecks, RangesAdd, TotalCodesEvaluate};
 
 mod codes;
+mod comparison;
 mod counts;
 mod dropping;
-mod itself;
 mod put;
 mod range;
 mod ranges;
+mod sets;
 mod settle;
 mod tidy;
 mod total;

@@ -1,11 +1,10 @@
 //! Ranges of numbers within the limit.
 ghost use Rattle.std.specs.Prelude.{◌≡◌, pos, ◌+ℤ◌, ◌-ℤ◌, ◌*ℤ◌, neg_ℤ};
 ghost use Rattle.std.specs.Int.{int_min, int_max};
-ghost use Rattle.cf_num.specs.Limit.{limit};
 ghost use Rattle.cf_tree.specs.Numbers.{quotient};
-ghost use Rattle.cf_range.specs.Ranges.{between, whole, nearest, passes, plus, minus, times, plus_passes, minus_passes, times_passes, negated, divided, left_by, better_of, either, past_or_none, spanned, scaled};
+ghost use Rattle.cf_range.specs.Ranges.{between, whole, nearest, passes, plus, minus, times, plus_passes, minus_passes, times_passes, negated, divided, left_by, sizes, better_of, either, past_or_none, spanned, scaled};
 
-/// The numbers from `low` to `high`, both among them.
+/// The numbers from `low` to `high`, both among them. That of a set ends at the most elements that it may have.
 #[derive(Clone, Copy, Debug, PartialEq, Eq)]
 pub struct Range {
     pub low: i128,
@@ -31,13 +30,6 @@ impl Range {
         ensures { result ≡ between (pos 0) (pos 0) }
     {
         Range { low: 0, high: 0 }
-    }
-
-    /// All counts of elements.
-    pub fn count() -> Range
-        ensures { result ≡ between (pos 0) (pos limit) }
-    {
-        Range { low: 0, high: MAX }
     }
 
     /// The one number, or the nearest within the limit.
@@ -133,6 +125,16 @@ impl Range {
             }
         } else {
             self
+        }
+    }
+
+    /// How many elements sets of this range have.
+    pub fn sizes(self) -> Range
+        ensures { result ≡ sizes self }
+    {
+        Range {
+            low: 0,
+            high: greatest(0, self.high),
         }
     }
 

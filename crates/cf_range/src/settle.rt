@@ -1,19 +1,20 @@
-//! Settling: a let goes whose value reads better in its place, and a comparison of a variable, or of a numeral, with itself
-//! is decided.
+//! Settling: a let goes whose value reads better in its place, a comparison is decided where its sides tell, and a union loses parts that are
+//! the empty set.
 ghost use Rattle.std.specs.Prelude.{◌≡◌, IfOk, if◌then◌else◌};
 ghost use Rattle.cf_tree.specs.CodeView.{code_tree, item_tree, arm_tree, code_trees, item_trees, arm_trees};
 ghost use Rattle.cf_range.specs.Settled.{gives_so_many, ranges_with, let_settled, settled, all_settled, item_settled, items_settled, arm_each, arm_settled, arms_settled};
 
+use crate::comparison::comparison;
 use crate::counts::{gives_so_many, goes_in, items_bind_one};
 use crate::dropping::arm_dropped;
-use crate::itself::comparison;
 use crate::put::put;
 use crate::range::Range;
 use crate::ranges::{range_behind, ranges_behind_all, ranges_with, with_wholes};
-use cf_tree::{Arm, Code, Item, NoMemory, code_over_list, code_over_one, code_over_three};
+use crate::sets::{fresh_settled, slice_settled, union_settled};
+use cf_tree::{Arm, Code, Item, NoMemory, code_over_one};
 use std::alloc::Global;
 
-/// The code without lets whose value goes into its place, and without comparisons that are decided. `ranges` are those of its variables, by level.
+/// The code without lets whose value goes into its place, comparisons that are decided and sets that are empty. `ranges` are those of its variables, by level.
 #[cycle(settle)]
 pub(crate) fn settle(alloc: Global, ranges: &[Range], code: &Code) -> Result<Code, NoMemory>
     ensures { IfOk result (λ new. code_tree new ≡ settled ranges.now (code_tree code.now)) }
@@ -22,7 +23,16 @@ pub(crate) fn settle(alloc: Global, ranges: &[Range], code: &Code) -> Result<Cod
         Code::Lit(k) => Ok(Code::Lit(*k)),
         Code::Truth(t) => Ok(Code::Truth(*t)),
         Code::Var(x) => Ok(Code::Var(*x)),
-        code_over_list!(parts) => {
+        Code::Union(parts) => {
+            let parts = settle_all(alloc, ranges, parts)?;
+            union_settled(alloc, parts)
+        }
+        Code::SetOf(parts)
+        | Code::Tuple(parts)
+        | Code::Sum(parts)
+        | Code::Min(parts)
+        | Code::Max(parts)
+        | Code::Inter(parts) => {
             let parts = settle_all(alloc, ranges, parts)?;
             Ok(code.over_list(parts))
         }
@@ -50,16 +60,26 @@ pub(crate) fn settle(alloc: Global, ranges: &[Range], code: &Code) -> Result<Cod
         | Code::And(a, b)
         | Code::Or(a, b)
         | Code::Diff(a, b)
-        | Code::Subset(a, b)
-        | Code::Fresh { avoid: a, n: b } => {
+        | Code::Subset(a, b) => {
             let first = settle_boxed(alloc, ranges, a)?;
             let second = settle_boxed(alloc, ranges, b)?;
             Ok(code.over_two(first, second))
         }
-        code_over_three!(a, b, c) => {
-            let first = settle_boxed(alloc, ranges, a)?;
-            let second = settle_boxed(alloc, ranges, b)?;
-            let third = settle_boxed(alloc, ranges, c)?;
+        Code::Fresh { avoid, n } => {
+            let first = settle_boxed(alloc, ranges, avoid)?;
+            let second = settle_boxed(alloc, ranges, n)?;
+            Ok(fresh_settled(alloc, ranges, first, second))
+        }
+        Code::Slice { set, from, n } => {
+            let first = settle_boxed(alloc, ranges, set)?;
+            let second = settle_boxed(alloc, ranges, from)?;
+            let third = settle_boxed(alloc, ranges, n)?;
+            Ok(slice_settled(alloc, ranges, first, second, third))
+        }
+        Code::If { test, yes, no } => {
+            let first = settle_boxed(alloc, ranges, test)?;
+            let second = settle_boxed(alloc, ranges, yes)?;
+            let third = settle_boxed(alloc, ranges, no)?;
             Ok(code.over_three(first, second, third))
         }
         Code::Solve { number, arms } => Ok(Code::Solve {

@@ -263,7 +263,7 @@ fn drop_zeros(parts: &mut Vec<Code>)
     parts.retain(|part| !is_zero(part));
 }
 
-fn is_zero(code: &Code) -> bool
+pub(crate) fn is_zero(code: &Code) -> bool
     ensures { result ≡ is_zero (code_tree code.now) }
 {
     match code {
