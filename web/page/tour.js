@@ -84,14 +84,14 @@ export const tour = [
   {
     title: 'Given',
     text: [
-      'Here are the sum and the difference again. `check` finds that there are no outputs for -1 and 0. Perhaps that is no mistake, because nobody will ' +
+      'Here are the sum and the difference again. `check` finds that there are no outputs for 0 and 1. Perhaps that is no mistake, because nobody will ' +
         'ask for such numbers.',
       'Then say so: what stands behind `given` is a condition on the inputs. `check` asks about inputs with this condition alone. For any others the ' +
         'program still says that there is no solution.',
     ],
     example: 'pair',
     tab: 'check',
-    seen: ['program.cf:4:3: choose 1: no outputs for sum = -1, difference = 0'],
+    seen: ['program.cf:4:3: choose 1: no outputs for sum = 0, difference = 1'],
     offer: {
       label: 'Say so',
       from: ' where x',

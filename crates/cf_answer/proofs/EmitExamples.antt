@@ -18,6 +18,7 @@ use Rattle.cf_program.specs.Checked.{TypedTree}
 use Rattle.cf_program.specs.declared.linearity.Linearity.TheVariants.{Plain}
 use Rattle.cf_build.specs.Chooses.{all_chooses, by_number, first_refused}
 use Rattle.cf_shift.specs.Meeting.{AreSmall}
+use Rattle.cf_range.specs.Ranges.{AreHeld}
 use Rattle.cf_stmt.specs.Blocks.{Block, give, none}
 use Rattle.cf_stmt.specs.Runs.{gives, overflows, runs}
 use Rattle.cf_print.specs.declared.language.Language.{Language}
@@ -73,7 +74,7 @@ module _ (t : RawTarget) (is : code_tree t.code ≡ next) (takes : t.params.item
 
   -- its own code, as a statement
   answers : AnswersAs (give next) t
-  answers = λ vs bases small. rw is refl
+  answers = λ vs bases small held. rw is refl
 
   five : HaveBases t.params.items (one (pos 5))
   five = rw takes ((pos 5, refl), tt)
@@ -81,12 +82,15 @@ module _ (t : RawTarget) (is : code_tree t.code ≡ next) (takes : t.params.item
   five-is_small : AreSmall limit (one (pos 5))
   five-is_small = (omega arith, tt)
 
+  five-is_held : AreHeld (one (pos 5))
+  five-is_held = (tt, tt)
+
   -- what gives another number, or none, does not answer as it
   answers-otherwise : AnswersAs (give (code_var 0)) t → ⊥
-  answers-otherwise h = let same : gives (one (pos 5)) ≡ gives (one (pos 6)) = rw is at (h (one (pos 5)) five five-is_small) in cc
+  answers-otherwise h = let same : gives (one (pos 5)) ≡ gives (one (pos 6)) = rw is at (h (one (pos 5)) five five-is_small five-is_held) in cc
 
   answers-with_none : AnswersAs (none 1) t → ⊥
-  answers-with_none h = let same : runs (none 1) (one (pos 5)) ≡ gives (one (pos 6)) = rw is at (h (one (pos 5)) five five-is_small) in cc
+  answers-with_none h = let same : runs (none 1) (one (pos 5)) ≡ gives (one (pos 6)) = rw is at (h (one (pos 5)) five five-is_small five-is_held) in cc
 
 -- ---- what is printed
 abbrev as_filter : Emitting

@@ -24,9 +24,9 @@ use Rattle.cf_build.specs.Built.{IsBuilt, unfolded_code}
 use Rattle.cf_build.specs.Chooses.{all_chooses, by_number, first_refused, limit_of, IsFirstRefused}
 use Rattle.cf_build.proofs.ChooseLaws.{refused_has}
 use Rattle.cf_range.specs.Alike.{Alike, AnswersAlike}
-use Rattle.cf_range.specs.Ranges.{LieIn, whole}
+use Rattle.cf_range.specs.Ranges.{LieIn, param_range}
 use Rattle.cf_range.specs.declared.range.Range.{Range}
-use Rattle.cf_range.proofs.RangeLaws.{typed_lie}
+use Rattle.cf_range.proofs.RangeLaws.{params_lie}
 use Rattle.cf_stmt.specs.Blocks.{Block}
 use Rattle.cf_stmt.specs.Runs.{checked, outcome_run, overflows}
 use Rattle.cf_stmt.specs.Statements.{IsStatements}
@@ -64,12 +64,12 @@ alike_run p q h = by (leb_tells p.peak limit) (leb_tells q.peak limit)
         ∙ sym (ap (λ b. cond b (outcome_run (outcome_of p.gives)) overflows) x.0)
 
 -- the statements of a target's code, which was tidied, answer as the target
-pub body_answers : (t : RawTarget) (rs : List Range) (tidy : CodeTree) (b : Block) → rs ≡ map (λ _. whole) t.params.items →
+pub body_answers : (t : RawTarget) (rs : List Range) (tidy : CodeTree) (b : Block) → rs ≡ map param_range t.params.items →
     AnswersAlike rs (code_tree t.code) tidy → IsStatements tidy b → AnswersAs b t
-body_answers t rs tidy b is same s = λ vs bases small.
+body_answers t rs tidy b is same s = λ vs bases small held.
     statements_run tidy b s vs
     ∙ alike_run (path (code_tree t.code) vs) (path tidy vs)
-    (same vs (subst (λ v. LieIn v vs) (sym is) (typed_lie t.params.items vs bases small)))
+    (same vs (subst (λ v. LieIn v vs) (sym is) (params_lie t.params.items vs bases small held)))
 
 -- ---- sets
 -- the target that no pass rewrites has main's parameters, results and code

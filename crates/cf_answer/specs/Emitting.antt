@@ -12,6 +12,7 @@ use Rattle.cf_tree.specs.declared.target.RawTarget.{RawTarget}
 use Rattle.cf_shift.specs.Meeting.{AreSmall}
 use Rattle.cf_pass.specs.Passes.{Told}
 use Rattle.cf_program.specs.Checked.{TypedTree}
+use Rattle.cf_range.specs.Ranges.{AreHeld}
 use Rattle.cf_build.specs.Built.{unfolded_code}
 use Rattle.cf_stmt.specs.Blocks.{Block}
 use Rattle.cf_stmt.specs.Runs.{Run, overflows, outcome_run, runs}
@@ -26,9 +27,9 @@ use Rattle.cf_answer.specs.Sources.{Compiles}
 abbrev pub target_run : RawTarget → List Value → Run
 target_run t vs = if nat_le (peak (code_tree t.code) vs) limit then outcome_run (means (code_tree t.code) vs) else overflows
 
--- the statements come to what the target comes to, at all values of main's types of which none is past
+-- the statements come to what the target comes to, at all values of main's types of which none is past, with sets that a machine holds
 abbrev pub AnswersAs : Block → RawTarget → Type 0
-AnswersAs b t = (vs : List Value) → HaveBases t.params.items vs → AreSmall limit vs → runs b vs ≡ target_run t vs
+AnswersAs b t = (vs : List Value) → HaveBases t.params.items vs → AreSmall limit vs → AreHeld vs → runs b vs ≡ target_run t vs
 
 -- these statements, with what the words, the source and the target tell of their print
 abbrev pub printing : Emitting → List ℕ → RawTarget → Block → Printing

@@ -10,7 +10,6 @@ ghost use Rattle.cf_program.specs.Source.{IsSpelledProgram};
 ghost use Rattle.cf_program.specs.Typed.{typed_tree};
 ghost use Rattle.cf_print_program.specs.Printed.{IsPrint, has_sets as has_sets_in};
 ghost use Rattle.cf_print_shape.specs.Sets.{is_set, uses_sets as uses_sets_in};
-ghost use Rattle.cf_range.specs.Ranges.{whole};
 ghost use Rattle.cf_stmt.specs.BlockView.{block_tree};
 ghost use Rattle.cf_words.specs.Commands.{emit as the_emit, plain_emitting};
 ghost use Rattle.cf_answer.specs.Emitting.{AnswersAs, CompilesIn, IsEmitted, lacks_sets as lacks_sets_in, printing};
@@ -34,9 +33,9 @@ use cf_print::Language;
 use cf_print_program::{Emission, EmitFault, Hints, emitted};
 use cf_print_shape::{has_set, uses_sets};
 use cf_program::Typed;
-use cf_range::{Range, tidied};
+use cf_range::{param_ranges, tidied};
 use cf_stmt::{Block, statements};
-use cf_tree::{Base, Edition, NoMemory, Program, Target, Text};
+use cf_tree::{Edition, NoMemory, Program, Target, Text};
 use cf_words::Emitting;
 use std::alloc::Global;
 
@@ -101,24 +100,11 @@ fn compiled(
     Ok(target)
 }
 
-// What is known of parameters.
-fn ranges_of(alloc: Global, bases: &[Base]) -> Result<Vec<Range>, NoMemory>
-    ensures { IfOk result (λ all. all.items ≡ map (λ b. whole) bases.now) }
-{
-    let mut all = Vec::new(alloc);
-    let mut left = bases;
-    'bases: while let Some((_base, more)) = left.split_first() {
-        all.push(Range::whole())?;
-        left = more;
-    }
-    Ok(all)
-}
-
 // Statements that answer as a target.
 fn body_of(alloc: Global, target: &Target) -> Result<Box<Block>, NoMemory>
     ensures { IfOk result (λ b. AnswersAs (block_tree b.value) target.now) }
 {
-    let ranges = ranges_of(alloc, target.params())?;
+    let ranges = param_ranges(alloc, target.params())?;
     let code = tidied(alloc, &ranges, target.body())?;
     statements(alloc, &code)
 }

@@ -10,7 +10,8 @@ ghost use Rattle.cf_guide.specs.declared.guide.Outcome.TheVariants.{Closed};
 ghost use Rattle.cf_read.specs.Reading.{NeverHolds};
 ghost use Rattle.cf_decide.specs.Finding.{IsFound};
 
-use crate::searching::{Found, MOST_VARIABLES, of_search};
+use crate::scale::MOST_VARIABLES;
+use crate::searching::{Found, of_search};
 use cf_choose::{ChooseFault, layout};
 use cf_counts::{MOST_COUNTED_SETS, count_bases, over_counts};
 use cf_guide::{Limits, Outcome};

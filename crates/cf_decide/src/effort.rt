@@ -1,10 +1,10 @@
-//! How far a doubt is followed.
+//! How a question is answered.
 
-/// What is done about a question that an elimination leaves in doubt.
+/// By what an answer is looked for.
 #[derive(Clone, Copy, Debug, PartialEq, Eq)]
 pub enum Effort {
-    /// Nothing.
+    /// By the elimination alone.
     Elimination,
-    /// A refutation is looked for.
+    /// By inputs that are tried, by a refutation and by guesses, and by the elimination where these find nothing.
     Refutation,
 }

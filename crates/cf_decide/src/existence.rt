@@ -11,13 +11,16 @@ ghost use Rattle.cf_decide.specs.Finding.{IsFound};
 
 use crate::effort::Effort;
 use crate::guess::guessed;
-use crate::searching::{Found, search};
+use crate::narrow::narrowed;
+use crate::scale::Scale;
+use crate::searching::{Found, search, untold};
+use crate::trials::Patience;
 use crate::trying::missing_sample;
 use crate::witness::is_witness;
 use cf_choose::Solved;
 use cf_eval::Value;
 use cf_tree::{NoMemory, Rel, without};
-use cf_warn::{Doubt, ExistenceAnswer, MOST_TUPLES, existence, none, parameters, tuple_count};
+use cf_warn::{ExistenceAnswer, MOST_TUPLES, existence, none, parameters, tuple_count};
 use std::alloc::Global;
 
 /// Whether a choose has outputs for every choice of its parameters: `Always` where it has, `Missing` with a sample of the
@@ -32,10 +35,9 @@ pub fn decide_existence(
 ) -> Result<ExistenceAnswer, NoMemory>
     ensures { IfOk result (SaysExistence solved.now.scope.items solved.now.outputs.items (rel_tree solved.now.rel)) }
 {
-    let answer = by_elimination(alloc, solved)?;
-    match followed(effort, &answer) {
-        Some(doubt) => in_doubt(alloc, solved, without(answer, doubt)),
-        None => Ok(answer),
+    match effort {
+        Effort::Elimination => by_elimination(alloc, solved),
+        Effort::Refutation => by_sample(alloc, solved),
     }
 }
 
@@ -45,47 +47,72 @@ fn by_elimination(alloc: Global, solved: &Solved) -> Result<ExistenceAnswer, NoM
     existence(alloc, solved)
 }
 
-// The doubt of the answer, where it is to be followed.
-fn followed(effort: Effort, answer: &ExistenceAnswer) -> Option<Doubt> {
-    match effort {
-        Effort::Elimination => None,
-        Effort::Refutation => doubt_of(answer),
-    }
-}
-
-fn doubt_of(answer: &ExistenceAnswer) -> Option<Doubt> {
-    match answer {
-        ExistenceAnswer::Undecided(doubt) => Some(*doubt),
-        ExistenceAnswer::Always | ExistenceAnswer::Missing(_) => None,
-    }
-}
-
-// What a search finds, or a sample that is found by trying, or the doubt.
-fn in_doubt(alloc: Global, solved: &Solved, doubt: Doubt) -> Result<ExistenceAnswer, NoMemory>
+// A sample that is soon found by trying, or what else is found.
+fn by_sample(alloc: Global, solved: &Solved) -> Result<ExistenceAnswer, NoMemory>
     ensures { IfOk result (SaysExistence solved.now.scope.items solved.now.outputs.items (rel_tree solved.now.rel)) }
 {
-    let answer = by_search(alloc, solved, doubt)?;
-    match doubt_of(&answer) {
-        Some(doubt) => by_trials(alloc, solved, without(answer, doubt)),
-        None => Ok(answer),
+    match missing_sample(alloc, solved, Patience::short())? {
+        Some(sample) => Ok(ExistenceAnswer::Missing(sample)),
+        None => by_searches(alloc, solved),
     }
 }
 
-// What a search finds, or the doubt. For many tuples of arms the question is not written.
-fn by_search(alloc: Global, solved: &Solved, doubt: Doubt) -> Result<ExistenceAnswer, NoMemory>
+// What a first search finds, or that a witness shows that outputs always exist, or what else is found.
+fn by_searches(alloc: Global, solved: &Solved) -> Result<ExistenceAnswer, NoMemory>
+    ensures { IfOk result (SaysExistence solved.now.scope.items solved.now.outputs.items (rel_tree solved.now.rel)) }
+{
+    let answer = by_search(alloc, solved, Scale::first())?;
+    if !is_undecided(&answer) {
+        return Ok(answer);
+    }
+    drop(answer);
+    if is_shown(alloc, solved)? {
+        return Ok(ExistenceAnswer::Always);
+    }
+    by_more(alloc, solved)
+}
+
+// What a longer search finds, or a sample that is found by longer trying, or what the elimination tells.
+fn by_more(alloc: Global, solved: &Solved) -> Result<ExistenceAnswer, NoMemory>
+    ensures { IfOk result (SaysExistence solved.now.scope.items solved.now.outputs.items (rel_tree solved.now.rel)) }
+{
+    let answer = by_search(alloc, solved, Scale::second())?;
+    if !is_undecided(&answer) {
+        return Ok(answer);
+    }
+    drop(answer);
+    match missing_sample(alloc, solved, Patience::long())? {
+        Some(sample) => Ok(ExistenceAnswer::Missing(sample)),
+        None => by_elimination(alloc, solved),
+    }
+}
+
+fn is_undecided(answer: &ExistenceAnswer) -> bool {
+    match answer {
+        ExistenceAnswer::Undecided(_) => true,
+        ExistenceAnswer::Always | ExistenceAnswer::Missing(_) => false,
+    }
+}
+
+// What a search of this scale finds. For many tuples of arms the question is not written.
+pub(crate) fn by_search(
+    alloc: Global,
+    solved: &Solved,
+    scale: Scale,
+) -> Result<ExistenceAnswer, NoMemory>
     ensures { IfOk result (SaysExistence solved.now.scope.items solved.now.outputs.items (rel_tree solved.now.rel)) }
 {
     let tuples = tuple_count(solved)?;
     if tuples > MOST_TUPLES {
-        return Ok(ExistenceAnswer::Undecided(doubt));
+        return Ok(ExistenceAnswer::Undecided(untold()));
     }
     let params = parameters(alloc, solved)?;
-    let found = searched(alloc, solved, &params)?;
-    answer(solved, params.len(), doubt, found)
+    let found = searched(alloc, solved, &params, scale)?;
+    answer(solved, params.len(), found)
 }
 
 // What a search finds of the question whether outputs are missing.
-fn searched(alloc: Global, solved: &Solved, params: &[u32]) -> Result<Found, NoMemory>
+fn searched(alloc: Global, solved: &Solved, params: &[u32], scale: Scale) -> Result<Found, NoMemory>
     requires { params.now ≡ parameters solved.now.scope.items (rel_tree solved.now.rel) }
     ensures { IfOk result (IsFound (none_outputs solved.now.scope.items solved.now.outputs.items (rel_tree solved.now.rel))
         (none solved.now.scope.items solved.now.outputs.items (rel_tree solved.now.rel))) }
@@ -93,17 +120,12 @@ fn searched(alloc: Global, solved: &Solved, params: &[u32]) -> Result<Found, NoM
     // for the proof: the choose is solved
     let _ = solved.outputs();
     let question = none(alloc, solved, params)?;
-    let found = search(alloc, &question.outputs, &question.rel);
+    let found = search(alloc, &question.outputs, &question.rel, scale);
     without(question, found)
 }
 
 // The answer, where this is found of the question.
-fn answer(
-    solved: &Solved,
-    count: usize,
-    doubt: Doubt,
-    found: Found,
-) -> Result<ExistenceAnswer, NoMemory>
+fn answer(solved: &Solved, count: usize, found: Found) -> Result<ExistenceAnswer, NoMemory>
     requires count { count ≡ length (parameters solved.now.scope.items (rel_tree solved.now.rel)) }
     requires found { IsFound (none_outputs solved.now.scope.items solved.now.outputs.items (rel_tree solved.now.rel))
         (none solved.now.scope.items solved.now.outputs.items (rel_tree solved.now.rel)) found }
@@ -114,7 +136,7 @@ fn answer(
     match found {
         Found::Never => Ok(ExistenceAnswer::Always),
         Found::At(values) => missing(values, count),
-        Found::Nothing => Ok(ExistenceAnswer::Undecided(doubt)),
+        Found::Nothing => Ok(ExistenceAnswer::Undecided(untold())),
     }
 }
 
@@ -130,59 +152,32 @@ fn missing(values: Vec<Value>, count: usize) -> Result<ExistenceAnswer, NoMemory
     }
 }
 
-// A sample that is found by trying, or what a witness shows, or the doubt.
-fn by_trials(alloc: Global, solved: &Solved, doubt: Doubt) -> Result<ExistenceAnswer, NoMemory>
-    ensures { IfOk result (SaysExistence solved.now.scope.items solved.now.outputs.items (rel_tree solved.now.rel)) }
-{
-    match missing_sample(alloc, solved)? {
-        Some(sample) => Ok(ExistenceAnswer::Missing(sample)),
-        None => by_witness(alloc, solved, doubt),
-    }
-}
-
-// That outputs always exist, if a witness is guessed that shows it, or the doubt.
-fn by_witness(alloc: Global, solved: &Solved, doubt: Doubt) -> Result<ExistenceAnswer, NoMemory>
-    ensures { IfOk result (SaysExistence solved.now.scope.items solved.now.outputs.items (rel_tree solved.now.rel)) }
-{
-    match guessed(alloc, solved)? {
-        Some(witness) => {
-            let answer = with_witness(alloc, solved, &witness, doubt);
-            without(witness, answer)
-        }
-        None => Ok(ExistenceAnswer::Undecided(doubt)),
-    }
-}
-
-fn with_witness(
-    alloc: Global,
-    solved: &Solved,
-    witness: &Rel,
-    doubt: Doubt,
-) -> Result<ExistenceAnswer, NoMemory>
-    ensures { IfOk result (SaysExistence solved.now.scope.items solved.now.outputs.items (rel_tree solved.now.rel)) }
-{
-    if is_witness(alloc, solved, witness)? {
-        Ok(ExistenceAnswer::Always)
-    } else {
-        Ok(ExistenceAnswer::Undecided(doubt))
-    }
-}
-
-// Whether an elimination or a search finds that outputs always exist.
-pub(crate) fn always_exist(alloc: Global, solved: &Solved) -> Result<bool, NoMemory>
+// Whether a witness is guessed that shows that outputs always exist.
+fn is_shown(alloc: Global, solved: &Solved) -> Result<bool, NoMemory>
     ensures { IfOk result (λ b. b ≡ true → AreAlways solved.now.scope.items solved.now.outputs.items (rel_tree solved.now.rel)) }
 {
-    let answer = by_elimination(alloc, solved)?;
-    match doubt_of(&answer) {
-        Some(doubt) => {
-            let answer = by_search(alloc, solved, without(answer, doubt))?;
-            Ok(is_always(&answer))
+    let guess = guessed(alloc, solved)?;
+    if is_shown_by(alloc, solved, guess)? {
+        return Ok(true);
+    }
+    let guess = narrowed(alloc, solved)?;
+    is_shown_by(alloc, solved, guess)
+}
+
+fn is_shown_by(alloc: Global, solved: &Solved, guess: Option<Rel>) -> Result<bool, NoMemory>
+    ensures { IfOk result (λ b. b ≡ true → AreAlways solved.now.scope.items solved.now.outputs.items (rel_tree solved.now.rel)) }
+{
+    match guess {
+        Some(witness) => {
+            let told = is_witness(alloc, solved, &witness);
+            without(witness, told)
         }
-        None => Ok(is_always(&answer)),
+        None => Ok(false),
     }
 }
 
-fn is_always(answer: &ExistenceAnswer) -> bool
+// Whether it is found that outputs always exist.
+pub(crate) fn is_always(answer: &ExistenceAnswer) -> bool
     ensures { result ≡ true → answer.now ≡ Always }
 {
     match answer {

@@ -4,11 +4,11 @@ use cf_choose::Solved;
 use cf_tree::{Base, NoMemory, Order, Rel, Term, add_u32, to_u32, without};
 use std::alloc::Global;
 
-/// An output, and how often an equation has it.
+/// A variable, and how often a form has it.
 #[derive(Clone, Copy)]
-struct Share {
-    level: u32,
-    entry: i128,
+pub(crate) struct Share {
+    pub level: u32,
+    pub entry: i128,
 }
 
 /// The relation, if the outputs are numbers and such an equation is there.
@@ -21,7 +21,7 @@ pub(crate) fn guessed(alloc: Global, solved: &Solved) -> Result<Option<Rel>, NoM
     in_relation(alloc, solved.relation(), first, end)
 }
 
-fn are_numbers(bases: &[Base]) -> bool {
+pub(crate) fn are_numbers(bases: &[Base]) -> bool {
     for base in bases {
         if *base != Base::Int {
             return false;
@@ -198,7 +198,8 @@ fn rest_behind(alloc: Global, form: &Term, shares: &[Share]) -> Result<Term, NoM
     Ok(rest)
 }
 
-fn plus(alloc: Global, form: Term, share: Share) -> Result<Term, NoMemory> {
+/// The form, and a variable so many times.
+pub(crate) fn plus(alloc: Global, form: Term, share: Share) -> Result<Term, NoMemory> {
     match times(alloc, share) {
         Ok(more) => Ok(Term::Add(Box::new(alloc, form)?, more)),
         Err(fault) => Err(without(form, fault)),

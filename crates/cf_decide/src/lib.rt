@@ -1,6 +1,6 @@
-//! Whether a choose has outputs for every choice of its parameters, and whether they are the only ones: by an elimination of its
-//! questions, and where a question is left in doubt, by a search for a refutation of it. Where the search ends at a model, its
-//! values are tried, and where it finds nothing, some inputs are, and outputs that another relation tells.
+//! Whether a choose has outputs for every choice of its parameters, and whether they are the only ones. Inputs are tried
+//! first; then a refutation of the question is searched for, and where the search ends at a model, its values are tried; then
+//! outputs are guessed that another relation tells; and at last the question is eliminated.
 #![tactic(auto)]
 
 mod branches;
@@ -9,8 +9,10 @@ mod effort;
 mod exchange;
 mod existence;
 mod guess;
+mod narrow;
 mod never;
 mod samples;
+mod scale;
 mod searching;
 mod second;
 mod trials;
@@ -23,5 +25,5 @@ pub use crate::branches::{MOST_BRANCHES, never_holds_with};
 pub use crate::effort::Effort;
 pub use crate::existence::decide_existence;
 pub use crate::never::never_holds;
-pub use crate::searching::MOST_VARIABLES;
+pub use crate::scale::MOST_VARIABLES;
 pub use crate::uniqueness::decide_uniqueness;

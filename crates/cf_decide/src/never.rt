@@ -5,7 +5,7 @@ ghost use Rattle.cf_tree.specs.Relation.{IsTyped, IsLinear};
 ghost use Rattle.cf_guide.specs.declared.guide.Outcome.TheVariants.{Closed};
 ghost use Rattle.cf_read.specs.Reading.{NeverHolds};
 
-use crate::searching::MOST_VARIABLES;
+use crate::scale::MOST_VARIABLES;
 use cf_choose::ChooseFault;
 use cf_guide::{Limits, Outcome};
 use cf_refute::refute;

@@ -8,16 +8,15 @@ ghost use Rattle.cf_read.specs.Reading.{NeverHolds};
 ghost use Rattle.cf_decide.specs.Finding.{IsFound};
 
 use crate::samples::values_at;
+use crate::scale::Scale;
 use cf_choose::ChooseFault;
 use cf_eval::Value;
-use cf_guide::{Ending, Limits, Outcome};
+use cf_guide::{Ending, Outcome};
 use cf_holds::{HoldFault, have_bases, holds_at};
 use cf_refute::refute;
 use cf_tree::{Base, NoMemory, Rel, without};
+use cf_warn::Doubt;
 use std::alloc::Global;
-
-/// The most variables of a question of which a refutation is looked for.
-pub const MOST_VARIABLES: usize = 400;
 
 // What is found of a question.
 #[derive(Drop)]
@@ -29,16 +28,26 @@ pub(crate) enum Found {
     Nothing,
 }
 
-// What a search finds of the relation over variables of these bases.
-pub(crate) fn search(alloc: Global, bases: &[Base], rel: &Rel) -> Result<Found, NoMemory>
+// What stands for the doubt of a search that finds nothing: it is not told.
+pub(crate) fn untold() -> Doubt {
+    Doubt::Overflow
+}
+
+// What a search of this scale finds of the relation over variables of these bases.
+pub(crate) fn search(
+    alloc: Global,
+    bases: &[Base],
+    rel: &Rel,
+    scale: Scale,
+) -> Result<Found, NoMemory>
     requires typed { IsTyped bases.now (rel_tree rel.now) }
     requires linear { IsLinear (rel_tree rel.now) }
     ensures { IfOk result (IsFound bases.now (rel_tree rel.now)) }
 {
-    if bases.len() > MOST_VARIABLES {
+    if bases.len() > scale.variables {
         return Ok(Found::Nothing);
     }
-    let outcome = refute(alloc, &[], bases, rel, Limits::second());
+    let outcome = refute(alloc, &[], bases, rel, scale.limits);
     of_search(alloc, bases, rel, outcome)
 }
 

@@ -5,7 +5,7 @@ ghost use Rattle.cf_decide.specs.Finding.{IsFound};
 
 use crate::exchange::exchanged;
 use crate::searching::{Found, found_at};
-use crate::trials::{Trials, trial_count};
+use crate::trials::{Patience, Trials, trial_count};
 use crate::trying::sample_in;
 use cf_choose::Solved;
 use cf_eval::{Outcome, Value, run_code};
@@ -15,10 +15,10 @@ use std::alloc::Global;
 
 // A solved choose, its parameters, and the code of its arms.
 #[derive(Clone, Copy)]
-struct Arms<'a> {
-    solved: &'a Solved,
-    params: &'a [u32],
-    code: &'a Code,
+pub(crate) struct Arms<'a> {
+    pub solved: &'a Solved,
+    pub params: &'a [u32],
+    pub code: &'a Code,
 }
 
 /// What is found of the question whether a choose has two solutions, where its arms are run on some inputs, and two elements
@@ -35,7 +35,7 @@ pub(crate) fn two_solutions(
         return Ok(Found::Nothing);
     }
     let params = parameters(alloc, solved)?;
-    let count = trial_count(params.len(), tuple_count(solved)?);
+    let count = trial_count(params.len(), tuple_count(solved)?, Patience::long());
     let code = solved.code(alloc, 1)?;
     let mut trials = Trials::new(alloc, solved, &params)?;
     let arms = Arms {

@@ -7,11 +7,30 @@ use cf_set::Set;
 use cf_tree::{Base, NoMemory, without};
 use std::alloc::Global;
 
-/// The most inputs that are tried.
-const MOST_TRIALS: u64 = 3_200;
+/// The most inputs that are tried, and the most tuples that the arms may try on all of them.
+#[derive(Clone, Copy)]
+pub(crate) struct Patience {
+    inputs: u64,
+    tuples: u64,
+}
 
-/// The most tuples that the arms may try on all of them.
-const MOST_TRIED_TUPLES: u64 = 1_000_000;
+impl Patience {
+    /// Before anything else is looked for.
+    pub(crate) fn short() -> Patience {
+        Patience {
+            inputs: 1_000,
+            tuples: 40_000,
+        }
+    }
+
+    /// Where nothing else was found.
+    pub(crate) fn long() -> Patience {
+        Patience {
+            inputs: 3_200,
+            tuples: 1_000_000,
+        }
+    }
+}
 
 /// The most parameters that are tried with all numbers from 14 to 59.
 const FEW_PARAMETERS: usize = 2;
@@ -35,12 +54,12 @@ const SETS: [(i128, i128); 8] = [
 ];
 
 /// How many inputs are tried for so many parameters, where the arms have so many tuples.
-pub(crate) fn trial_count(params: usize, tuples: u64) -> u64 {
-    let most = if params == 0 { 1 } else { MOST_TRIALS };
+pub(crate) fn trial_count(params: usize, tuples: u64, patience: Patience) -> u64 {
+    let most = if params == 0 { 1 } else { patience.inputs };
     if tuples == 0 {
         most
     } else {
-        most.min(MOST_TRIED_TUPLES / tuples)
+        most.min(patience.tuples / tuples)
     }
 }
 

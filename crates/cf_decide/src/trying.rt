@@ -10,7 +10,7 @@ ghost use Rattle.cf_warn.specs.Questions.{parameters};
 ghost use Rattle.cf_warn.specs.Solutions.{AreMissing};
 ghost use Rattle.cf_decide.specs.Trying.{IsUnsolved};
 
-use crate::trials::{Trials, trial_count};
+use crate::trials::{Patience, Trials, trial_count};
 use cf_choose::Solved;
 use cf_eval::{Outcome, Value, run_code};
 use cf_holds::have_bases;
@@ -19,12 +19,16 @@ use cf_warn::{parameters, tuple_count};
 use std::alloc::Global;
 
 /// Values of the parameters for which the arms have no solution, if they have none on one of the inputs that are tried.
-pub(crate) fn missing_sample(alloc: Global, solved: &Solved) -> Result<Option<Vec<Value>>, NoMemory>
+pub(crate) fn missing_sample(
+    alloc: Global,
+    solved: &Solved,
+    patience: Patience,
+) -> Result<Option<Vec<Value>>, NoMemory>
     ensures { IfOk result (λ found. IfSome found (λ sample.
         AreMissing solved.now.scope.items solved.now.outputs.items (rel_tree solved.now.rel) (plains sample.items))) }
 {
     let params = parameters(alloc, solved)?;
-    let count = trial_count(params.len(), tuple_count(solved)?);
+    let count = trial_count(params.len(), tuple_count(solved)?, patience);
     if count == 0 {
         return Ok(None);
     }

@@ -9,12 +9,13 @@ ghost use Rattle.cf_decide.specs.Finding.{IsFound};
 
 use crate::counts::search_counts;
 use crate::effort::Effort;
-use crate::searching::{Found, search};
+use crate::scale::Scale;
+use crate::searching::{Found, search, untold};
 use crate::second::two_solutions;
 use cf_choose::Solved;
 use cf_eval::Value;
 use cf_tree::{Base, NoMemory, Rel, without};
-use cf_warn::{Doubt, UniquenessAnswer, parameters, twice, twice_outputs, uniqueness};
+use cf_warn::{UniquenessAnswer, parameters, twice, twice_outputs, uniqueness};
 use std::alloc::Global;
 
 /// Whether a choose has two solutions with the same parameters that differ in one of the first so many outputs, which are
@@ -30,10 +31,9 @@ pub fn decide_uniqueness(
 ) -> Result<UniquenessAnswer, NoMemory>
     ensures { IfOk result (SaysUniqueness solved.now.scope.items solved.now.outputs.items shown (rel_tree solved.now.rel)) }
 {
-    let answer = by_elimination(alloc, solved, shown)?;
-    match followed(effort, &answer) {
-        Some(doubt) => by_search(alloc, solved, shown, without(answer, doubt)),
-        None => Ok(answer),
+    match effort {
+        Effort::Elimination => by_elimination(alloc, solved, shown),
+        Effort::Refutation => by_refutation(alloc, solved, shown),
     }
 }
 
@@ -47,34 +47,32 @@ fn by_elimination(
     uniqueness(alloc, solved, shown)
 }
 
-// The doubt of the answer, where it is to be followed.
-fn followed(effort: Effort, answer: &UniquenessAnswer) -> Option<Doubt> {
-    match effort {
-        Effort::Elimination => None,
-        Effort::Refutation => doubt_of(answer),
+// What a search finds, or what the elimination tells.
+fn by_refutation(alloc: Global, solved: &Solved, shown: usize) -> Result<UniquenessAnswer, NoMemory>
+    ensures { IfOk result (SaysUniqueness solved.now.scope.items solved.now.outputs.items shown (rel_tree solved.now.rel)) }
+{
+    let answer = by_search(alloc, solved, shown)?;
+    if !is_undecided(&answer) {
+        return Ok(answer);
     }
+    drop(answer);
+    by_elimination(alloc, solved, shown)
 }
 
-fn doubt_of(answer: &UniquenessAnswer) -> Option<Doubt> {
+fn is_undecided(answer: &UniquenessAnswer) -> bool {
     match answer {
-        UniquenessAnswer::Undecided(doubt) => Some(*doubt),
-        UniquenessAnswer::Unique | UniquenessAnswer::Two { .. } => None,
+        UniquenessAnswer::Undecided(_) => true,
+        UniquenessAnswer::Unique | UniquenessAnswer::Two { .. } => false,
     }
 }
 
-// What a search finds, or the doubt.
-fn by_search(
-    alloc: Global,
-    solved: &Solved,
-    shown: usize,
-    doubt: Doubt,
-) -> Result<UniquenessAnswer, NoMemory>
+fn by_search(alloc: Global, solved: &Solved, shown: usize) -> Result<UniquenessAnswer, NoMemory>
     ensures { IfOk result (SaysUniqueness solved.now.scope.items solved.now.outputs.items shown (rel_tree solved.now.rel)) }
 {
     let params = parameters(alloc, solved)?;
     let count = params.len();
     let found = searched(alloc, solved, params, shown)?;
-    answer(solved, count, shown, doubt, found)
+    answer(solved, count, shown, found)
 }
 
 // What a search finds of the question whether there are two solutions.
@@ -90,7 +88,7 @@ fn searched(
 {
     let bases = twice_outputs(alloc, solved, &params)?;
     let rel = twice(alloc, solved, params, shown)?;
-    let found = search(alloc, &bases, &rel);
+    let found = search(alloc, &bases, &rel, Scale::second());
     let told = or_others(alloc, solved, &bases, &rel, found);
     without(rel, told)
 }
@@ -151,7 +149,6 @@ fn answer(
     solved: &Solved,
     count: usize,
     shown: usize,
-    doubt: Doubt,
     found: Found,
 ) -> Result<UniquenessAnswer, NoMemory>
     requires count { count ≡ length (parameters solved.now.scope.items (rel_tree solved.now.rel)) }
@@ -163,7 +160,7 @@ fn answer(
     match found {
         Found::Never => Ok(UniquenessAnswer::Unique),
         Found::At(values) => two(values, count, outputs),
-        Found::Nothing => Ok(UniquenessAnswer::Undecided(doubt)),
+        Found::Nothing => Ok(UniquenessAnswer::Undecided(untold())),
     }
 }
 

@@ -7,14 +7,17 @@ ghost use Rattle.cf_tree.specs.Relation.{IsTyped, IsLinear};
 ghost use Rattle.cf_choose.specs.Solved.{IsOutput};
 ghost use Rattle.cf_read.specs.Reading.{NeverHolds};
 ghost use Rattle.cf_warn.specs.Solutions.{AreAlways};
+ghost use Rattle.cf_decide.specs.Answers.{SaysExistence};
 ghost use Rattle.cf_decide.specs.Finding.{IsFound};
 ghost use Rattle.cf_decide.specs.declared.searching.Found.TheVariants.{Never};
 
-use crate::existence::always_exist;
-use crate::searching::{Found, search};
+use crate::existence::{by_search, is_always};
+use crate::scale::Scale;
+use crate::searching::{Found, search, untold};
 use cf_choose::{ChooseFault, Solved, solve};
+use cf_eval::Value;
 use cf_tree::{Base, NoMemory, Rel, without};
-use cf_warn::is_over;
+use cf_warn::{ExistenceAnswer, is_over};
 use std::alloc::Global;
 
 /// Whether it is found that a choose always has outputs, since those that the witness tells solve it.
@@ -52,14 +55,58 @@ fn has_outputs(alloc: Global, scope: &[Base], outputs: &[Base], rel: &Rel) -> Re
     requires outputs { All IsOutput outputs.now }
     ensures { IfOk result (λ b. b ≡ true → AreAlways scope.now outputs.now (rel_tree rel.now)) }
 {
+    let answer = existence_of(alloc, scope, outputs, rel)?;
+    Ok(is_always(&answer))
+}
+
+// What a search finds of whether a relation always has outputs.
+fn existence_of(
+    alloc: Global,
+    scope: &[Base],
+    outputs: &[Base],
+    rel: &Rel,
+) -> Result<ExistenceAnswer, NoMemory>
+    requires typed { IsTyped (scope.now ++ outputs.now) (rel_tree rel.now) }
+    requires linear { IsLinear (rel_tree rel.now) }
+    requires outputs { All IsOutput outputs.now }
+    ensures { IfOk result (SaysExistence scope.now outputs.now (rel_tree rel.now)) }
+{
     match solve(alloc, scope, outputs, rel) {
         Ok(solved) => {
-            let always = always_exist(alloc, &solved);
+            let answer = by_search(alloc, &solved, Scale::witness());
             drop(solved);
-            always
+            answer
         }
-        Err(ChooseFault::Refused(_)) => Ok(false),
+        Err(ChooseFault::Refused(_)) => Ok(ExistenceAnswer::Undecided(untold())),
         Err(ChooseFault::NoMemory) => Err(NoMemory),
+    }
+}
+
+/// Values of the parameters for which the witness tells no outputs, if a search finds some. Nothing is promised of them.
+pub(crate) fn missed(
+    alloc: Global,
+    solved: &Solved,
+    witness: &Rel,
+) -> Result<Option<Vec<Value>>, NoMemory> {
+    let mut bases = Vec::from_slice(alloc, solved.scope())?;
+    bases.extend_from_slice(solved.outputs())?;
+    missed_over(alloc, solved, &bases, witness)
+}
+
+fn missed_over(
+    alloc: Global,
+    solved: &Solved,
+    bases: &[Base],
+    witness: &Rel,
+) -> Result<Option<Vec<Value>>, NoMemory>
+    requires { bases.now ≡ solved.now.scope.items ++ solved.now.outputs.items }
+{
+    if !is_over(bases, witness) {
+        return Ok(None);
+    }
+    match existence_of(alloc, solved.scope(), solved.outputs(), witness)? {
+        ExistenceAnswer::Missing(sample) => Ok(Some(sample)),
+        ExistenceAnswer::Always | ExistenceAnswer::Undecided(_) => Ok(None),
     }
 }
 
@@ -72,7 +119,7 @@ fn solves(alloc: Global, bases: &[Base], witness: &Rel, rel: &Rel) -> Result<boo
     ensures { IfOk result (λ b. b ≡ true → NeverHolds [] bases.now (rel_and (rel_tree witness.now) (rel_not (rel_tree rel.now)))) }
 {
     let question = alone(alloc, witness, rel)?;
-    let found = search(alloc, bases, &question);
+    let found = search(alloc, bases, &question, Scale::witness());
     is_never(without(question, found))
 }
 

@@ -1,8 +1,9 @@
 //! Facts without common divisors, no two of which say the same.
 use crate::frame::Frame;
 use crate::plan::Plan;
-use crate::rows::{Likeness, column_count, compared, divisor, lone, two};
+use crate::rows::{Likeness, column_count, compared, divisor, is_opposite, last_entry, lone, two};
 use cf_close::{Action, Fact, FactKind};
+use cf_linear::Row;
 use cf_simplex::{Stop, total};
 use std::alloc::Global;
 
@@ -91,7 +92,7 @@ fn against(frame: &Frame, facts: &[Fact], place: usize, fact: &Fact) -> Result<P
         if other >= place {
             return Ok(Pair::Apart);
         }
-        if is_inequality(frame, earlier, other) {
+        if ends_alike(&earlier.row, &fact.row) && is_inequality(frame, earlier, other) {
             match between(other, earlier, place, fact)? {
                 Pair::Apart => {}
                 pair => return Ok(pair),
@@ -99,6 +100,13 @@ fn against(frame: &Frame, facts: &[Fact], place: usize, fact: &Fact) -> Result<P
         }
     }
     Ok(Pair::Apart)
+}
+
+// Whether two rows end in one column with the same or the opposite entry, as those do that have all in common.
+fn ends_alike(x: &Row, y: &Row) -> bool {
+    let (column, entry) = last_entry(x);
+    let (other, number) = last_entry(y);
+    column == other && (entry == number || is_opposite(entry, number))
 }
 
 fn between(other: usize, earlier: &Fact, place: usize, fact: &Fact) -> Result<Pair, Stop> {

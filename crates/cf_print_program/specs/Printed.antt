@@ -2,7 +2,7 @@
 use Rattle.std.specs.Prelude.{◌≡◌, ℕ, suc, Bool, true, false, List, [], ◌∷◌, ◌++◌, map, length, nat_eq, nat_lt, not, ◌||◌, ◌&&◌, if◌then◌else◌}
 use Rattle.std.specs.List.{list_all, list_any}
 use Rattle.cf_tree.specs.declared.base.Base.{Base}
-use Rattle.cf_range.specs.Ranges.{whole}
+use Rattle.cf_range.specs.Ranges.{param_range}
 use Rattle.cf_tree.specs.declared.base.Base.TheVariants.{Int, Bool as Truth, Set}
 use Rattle.cf_stmt.specs.Blocks.{Block}
 use Rattle.cf_print_shape.specs.Sets.{block_uses_sets, is_set}
@@ -77,7 +77,7 @@ called_of names p =
 
 -- before the first statement of that function: what is known, where it stands, and what is written
 abbrev pub first_sight : Called → Sight
-first_sight f = record { names = f.params; bases = f.bases; ranges = map (λ b. whole) f.bases }
+first_sight f = record { names = f.params; bases = f.bases; ranges = map param_range f.bases }
 
 abbrev pub first_place : Place
 first_place = record { depth = 1; exit = Falls; arms = 0; giving = Results }

@@ -1,8 +1,7 @@
 //! Printed programs.
-ghost use Rattle.std.specs.Prelude.{◌≡◌, [], map, nat_lt, true, false, IfOk, IsErrOf};
+ghost use Rattle.std.specs.Prelude.{◌≡◌, [], nat_lt, true, false, IfOk, IsErrOf};
 ghost use Rattle.std.specs.List.{list_all};
 ghost use Rattle.cf_print_shape.specs.Nones.{nones_of as all_nones};
-ghost use Rattle.cf_range.specs.Ranges.{whole};
 ghost use Rattle.cf_stmt.specs.BlockView.{block_tree};
 ghost use Rattle.cf_print_program.specs.EmissionView.{names_in, printing_of};
 ghost use Rattle.cf_print_program.specs.Printed.{IsPrint, all_functions, are_statuses as statuses, called_of as function_called, first_draft, first_place as place_of_first, first_sight, fitting as wishes_that_fit, is_unread, functions_of as functions_for, lacks_sets as the_lacks_sets, printed as printed_text, setting_of, unread_in as not_read_in, unread_truths as truths_not_read};
@@ -19,7 +18,7 @@ use cf_print_block::{
 use cf_print_line::{Called, end_of};
 use cf_print_shape::{Exit, block_reads, gives, leaves_at_ends, next_level, nones_of, push_name};
 use cf_print_term::{INT_END, Scope};
-use cf_range::Range;
+use cf_range::param_ranges;
 use cf_stmt::Block;
 use cf_tree::{Base, NoMemory, Text};
 use std::alloc::Global;
@@ -136,23 +135,6 @@ fn called_of(printer: &Printer<'_>, emission: &Emission<'_>) -> Result<Called, N
     })
 }
 
-// Of a parameter only the base is known.
-fn range_for(_base: Base) -> Range
-    ensures { result ≡ whole }
-{
-    Range::whole()
-}
-
-fn ranges_for(alloc: Global, bases: &[Base]) -> Result<Vec<Range>, NoMemory>
-    ensures { IfOk result (λ all. all.items ≡ map (λ b. whole) bases.now) }
-{
-    let mut all = Vec::new(alloc);
-    for base in bases {
-        all.push(range_for(*base))?;
-    }
-    Ok(all)
-}
-
 // What is known before its first statement.
 fn scope_of(alloc: Global, function: &Called) -> Result<Scope, NoMemory>
     ensures { IfOk result (λ s. s ≡ first_sight function.now) }
@@ -162,7 +144,7 @@ fn scope_of(alloc: Global, function: &Called) -> Result<Scope, NoMemory>
     Ok(Scope {
         names,
         bases,
-        ranges: ranges_for(alloc, &function.bases)?,
+        ranges: param_ranges(alloc, &function.bases)?,
     })
 }
 

@@ -1,5 +1,5 @@
 -- Numbers that lie in ranges, and what arithmetic makes of them.
-use Rattle.std.proofs.Common.{◌≡◌, ℕ, ℤ, pos, neg_ℤ, ◌+ℤ◌, ◌-ℤ◌, ◌*ℤ◌, Bool, true, false, ◌||◌, cond, length, refl, ◌∙◌, arith}
+use Rattle.std.proofs.Common.{◌≡◌, ◌≤◌, ℕ, ℤ, pos, neg_ℤ, ◌+ℤ◌, ◌-ℤ◌, ◌*ℤ◌, Bool, true, false, ◌||◌, cond, length, refl, ◌∙◌, arith}
 use Rattle.std.specs.Prelude.{unsigned_abs, int_lt, ◌≤ℤ◌, ◌<ℤ◌}
 use Rattle.std.specs.Int.{int_min, int_max, int_div_euclid}
 use Rattle.std.proofs.lemmas.Int.{ints, clamps, by_lt_z}
@@ -10,7 +10,8 @@ use Rattle.cf_num.proofs.Orders.{mul-le_z}
 use Rattle.cf_num.proofs.DivisionLemmas.{int_div_euclid-bounds, le-int_div_euclid}
 use Rattle.cf_tree.specs.Numbers.{quotient, remainder}
 use Rattle.cf_tree.specs.Values.{Value, number, truth, elements, elements_of}
-use Rattle.cf_range.specs.Ranges.{between, whole, LiesIn, IsSized, passes, nearest, plus, minus, times, plus_passes, minus_passes, times_passes, negated, divided, left_by, sizes, better_of, either}
+use Rattle.cf_tree.specs.declared.base.Base.TheVariants.{Set}
+use Rattle.cf_range.specs.Ranges.{between, whole, LiesIn, IsSized, IsHeld, param_range, passes, nearest, plus, minus, times, plus_passes, minus_passes, times_passes, negated, divided, left_by, sizes, better_of, either}
 use Rattle.cf_range.specs.declared.range.Range.{Range}
 use Rattle.cf_range.proofs.RisenLaws.{Rises}
 
@@ -48,6 +49,14 @@ sized_whole (elements zs) h = (h, most (length zs))
   where
     most : (n : ℕ) → nearest (pos n) ≤ℤ pos limit
     most n = omega (arith, ints, clamps)
+
+pub sized_held : (v : Value) → Rises v → IsHeld v → IsSized (param_range Set) v
+sized_held (number z) h k = tt
+sized_held (truth b) h k = tt
+sized_held (elements zs) h k = (h, most (length zs) k)
+  where
+    most : (n : ℕ) → n ≤ 9223372036854775807 → nearest (pos n) ≤ℤ pos 9223372036854775807
+    most n k = omega (arith, ints, clamps, k)
 
 pub sized_rises : (r : Range) (v : Value) → IsSized r v → Rises v
 sized_rises r (number z) h = tt

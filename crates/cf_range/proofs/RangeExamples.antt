@@ -1,14 +1,15 @@
 -- Values of the definitions.
-use Rattle.std.specs.Prelude.{◌≡◌, ◌^◌, pos, negsuc, neg_ℤ, ◌-◌, ℕ, ℤ, true, false, List, [], ◌∷◌, Some, None, refl}
+use Rattle.std.specs.Prelude.{◌≡◌, ◌≤◌, ◌^◌, pos, negsuc, neg_ℤ, ◌-◌, ℕ, ℤ, true, false, List, [], ◌∷◌, Some, None, refl}
 use Rattle.std.specs.Int.{int_min, int_max}
 use Rattle.std.proofs.Common.{arith}
 use Rattle.std.proofs.lemmas.Int.{ints}
 use Rattle.cf_num.specs.Limit.{limit}
+use Rattle.cf_tree.specs.declared.base.Base.TheVariants.{Int, Bool as Truth, Set}
 use Rattle.cf_tree.specs.declared.base.Order.TheVariants.{Lt}
 use Rattle.cf_tree.specs.CodeTree.{CodeTree, code_lit, code_truth, code_var, code_set_of, code_tuple, code_sum, code_sub, code_mul, code_neg, code_div, code_mod, code_min, code_max, code_compare, code_divides, code_and, code_or, code_not, code_union, code_inter, code_diff, code_subset, code_card, code_slice, code_fresh, code_if, code_let, code_solve, CodeTrees, no_codes, code_more, no_arms}
 use Rattle.cf_tree.specs.Values.{number, truth, elements}
 use Rattle.cf_range.specs.declared.range.Range.{Range}
-use Rattle.cf_range.specs.Ranges.{between, whole, LiesIn, LieIn, range_at, passes, nearest, plus, minus, times, spanned, scaled, past_or_none, plus_passes, minus_passes, times_passes, negated, divided, left_by, sizes, plus_all, plus_all_passes, better_of, best_of, either}
+use Rattle.cf_range.specs.Ranges.{between, whole, LiesIn, LieIn, IsHeld, AreHeld, most_elements, param_range, range_at, passes, nearest, plus, minus, times, spanned, scaled, past_or_none, plus_passes, minus_passes, times_passes, negated, divided, left_by, sizes, plus_all, plus_all_passes, better_of, best_of, either}
 use Rattle.cf_range.specs.CodeRanges.{range_of, may_pass}
 use Rattle.cf_range.specs.Total.{is_total}
 
@@ -52,6 +53,29 @@ lie-not_more h = h
 lie-second_too : LieIn (whole ∷ between (pos 1) (pos 1) ∷ []) (number (pos 0) ∷ number (pos 2) ∷ []) → ⊥
 lie-second_too h = omega (arith, ints, h.2.0.2)
 
+-- ---- parameters
+param-number : param_range Int ≡ between (negsuc (2 ^ 127 - 2)) (pos (2 ^ 127 - 1))
+param-number = refl
+
+param-truth : param_range Truth ≡ between (negsuc (2 ^ 127 - 2)) (pos (2 ^ 127 - 1))
+param-truth = refl
+
+param-set : param_range Set ≡ between (pos 0) (pos (2 ^ 63 - 1))
+param-set = refl
+
+most-is : most_elements ≡ 2 ^ 63 - 1
+most-is = refl
+
+held-numbers : (IsHeld (number (pos 5)) ≡ Unit {0}) × (IsHeld (truth true) ≡ Unit {0})
+held-numbers = (refl, refl)
+
+held-set : IsHeld (elements (pos 4 ∷ [])) ≡ (1 ≤ most_elements)
+held-set = refl
+
+held-each : AreHeld (number (pos 5) ∷ elements (pos 4 ∷ []) ∷ []) ≡ (Unit {0} × ((1 ≤ most_elements) × Unit {0}))
+held-each = refl
+
+-- ---- ranges of variables
 range_at-level : range_at (whole ∷ between (pos 1) (pos 2) ∷ []) 1 ≡ between (pos 1) (pos 2)
 range_at-level = refl
 

@@ -1,6 +1,7 @@
 -- The laws of ranges.
 use Rattle.std.proofs.Common.{◌≡◌, ℕ, zero, suc, ℤ, pos, neg_ℤ, ◌+ℤ◌, ◌-ℤ◌, ◌*ℤ◌, Bool, true, false, not, ◌&&◌, List, [], ◌∷◌, ◌++◌, Option, Some, None, cond, length, map, refl, sym, subst, arith}
 use Rattle.std.specs.Int.{int_min, int_max}
+use Rattle.std.proofs.lemmas.Int.{ints}
 use Rattle.cf_num.specs.Limit.{limit, IsWithin}
 use Rattle.cf_tree.specs.CodeTree.{CodeTree, code_lit, code_truth, code_var, code_set_of, code_tuple, code_sum, code_sub, code_mul, code_neg, code_div, code_mod, code_min, code_max, code_compare, code_divides, code_and, code_or, code_not, code_union, code_inter, code_diff, code_subset, code_card, code_slice, code_fresh, code_if, code_let, code_solve, CodeTrees, no_codes, code_more}
 use Rattle.cf_tree.specs.Meaning.{Got, got, none_at, Path, then_gives, path, all_path, set_path, sum_path, best_path, join_path, meets, meets_value, gives_truth, number_in, set_in, truth_in}
@@ -10,14 +11,14 @@ use Rattle.cf_tree.specs.declared.base.Base.{Base}
 use Rattle.cf_tree.specs.declared.base.Base.TheVariants.{Int, Bool as Truth, Set}
 use Rattle.cf_shift.specs.Meeting.{AreSmall}
 use Rattle.cf_range.specs.declared.range.Range.{Range}
-use Rattle.cf_range.specs.Ranges.{between, whole, LiesIn, IsSized, LieIn, range_at, either, plus, plus_all, plus_all_passes, better_of, best_of, best_after}
+use Rattle.cf_range.specs.Ranges.{between, whole, LiesIn, IsSized, LieIn, IsHeld, AreHeld, param_range, range_at, either, plus, plus_all, plus_all_passes, better_of, best_of, best_after}
 use Rattle.cf_range.specs.CodeRanges.{range_of, ranges_of, may_pass}
 use Rattle.cf_range.specs.Settled.{gives_number}
 use Rattle.cf_range.specs.Total.{is_total, are_total}
 use Rattle.cf_range.specs.RangeLaws.{Fits, AllFit, ValuesLieInRanges, NeedNoChecks, TotalCodesEvaluate}
 use Rattle.cf_shift.proofs.MeetingLaws.{path_own}
 use Rattle.cf_range.proofs.GivenLaws.{number_given}
-use Rattle.cf_range.proofs.NumberLemmas.{or_false, within_is, lies_exactly, zero_lies, sized_whole, sized_rises, size_lies, sized_either, lies_whole, sum_lies, difference_lies, product_lies, sum_fits, difference_fits, product_fits, negation_fits, negation_lies, quotient_fits, quotient_lies, remainder_fits, remainder_lies, Chooses, least_chooses, greatest_chooses, better_lies}
+use Rattle.cf_range.proofs.NumberLemmas.{or_false, within_is, lies_exactly, zero_lies, sized_whole, sized_held, sized_rises, size_lies, sized_either, lies_whole, sum_lies, difference_lies, product_lies, sum_fits, difference_fits, product_fits, negation_fits, negation_lies, quotient_fits, quotient_lies, remainder_fits, remainder_lies, Chooses, least_chooses, greatest_chooses, better_lies}
 use Rattle.cf_range.proofs.PathLemmas.{IsIn, then_in, only_in, meets_in, value_in, either_in, whole_in, then_fits, Does, only_does, then_does, either_does}
 use Rattle.cf_range.proofs.RisenLaws.{Rises, AllRise, first_rises, path_rises}
 
@@ -49,17 +50,32 @@ lie_behind [] (w ∷ ws) r v h k s = absurd h
 lie_behind (q ∷ qs) [] r v h k s = absurd h
 lie_behind (q ∷ qs) (w ∷ ws) r v h k s = (h.0, h.1, lie_behind qs ws r v h.2 k s)
 
--- values of these bases lie in whole ranges
+-- a set of a program is a rising list
 base_rises : (b : Base) (v : Value) → HasBase b v → Rises v
 base_rises Int v h = subst Rises (sym h.1) tt
 base_rises Truth v h = subst Rises (sym h.1) tt
 base_rises Set v h = subst Rises (sym h.1) h.2
 
-pub typed_lie : (bs : List Base) (vs : List Value) → HaveBases bs vs → AreSmall limit vs → LieIn (map (λ _. whole) bs) vs
-typed_lie [] [] h s = tt
-typed_lie [] (v ∷ vs) h s = absurd h
-typed_lie (b ∷ bs) [] h s = absurd h
-typed_lie (b ∷ bs) (v ∷ vs) h s = (lies_whole (number_of v) s.0, sized_whole v (base_rises b v h.0), typed_lie bs vs h.1 s.1)
+none_lies : LiesIn (param_range Set) (pos 0)
+none_lies = (omega arith, omega (arith, ints), omega (arith, ints))
+
+param_lies : (b : Base) (v : Value) → HasBase b v → IsWithin (number_of v) → LiesIn (param_range b) (number_of v)
+param_lies Int v h w = lies_whole (number_of v) w
+param_lies Truth v h w = lies_whole (number_of v) w
+param_lies Set v h w = subst (λ x. LiesIn (param_range Set) (number_of x)) (sym h.1) none_lies
+
+param_sized : (b : Base) (v : Value) → Rises v → IsHeld v → IsSized (param_range b) v
+param_sized Int v r h = sized_whole v r
+param_sized Truth v r h = sized_whole v r
+param_sized Set v r h = sized_held v r h
+
+-- values of these bases, with sets that a machine holds, lie in what is known of parameters
+pub params_lie : (bs : List Base) (vs : List Value) → HaveBases bs vs → AreSmall limit vs → AreHeld vs → LieIn (map param_range bs) vs
+params_lie [] [] h s held = tt
+params_lie [] (v ∷ vs) h s held = absurd h
+params_lie (b ∷ bs) [] h s held = absurd h
+params_lie (b ∷ bs) (v ∷ vs) h s held =
+    (param_lies b v h.0 s.0, param_sized b v (base_rises b v h.0) held.0, params_lie bs vs h.1 s.1 held.1)
 
 -- ---- sizes of the sets that codes give
 stop_not : {A : Type 0} (k : ℕ) (x : A) → none_at k ≡ got x → ⊥

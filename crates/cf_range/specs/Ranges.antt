@@ -1,10 +1,12 @@
 -- Between which numbers something lies, and what arithmetic makes of that.
-use Rattle.std.specs.Prelude.{ℕ, ℤ, pos, neg_ℤ, ◌+ℤ◌, ◌-ℤ◌, ◌*ℤ◌, ◌≤ℤ◌, int_lt, unsigned_abs, nat_lt, Bool, true, false, Option, Some, None, ◌||◌, List, [], ◌∷◌, length, slice_index_or, if◌then◌else◌}
+use Rattle.std.specs.Prelude.{ℕ, ℤ, pos, neg_ℤ, ◌+ℤ◌, ◌-ℤ◌, ◌*ℤ◌, ◌≤◌, ◌≤ℤ◌, int_lt, unsigned_abs, nat_lt, Bool, true, false, Option, Some, None, ◌||◌, List, [], ◌∷◌, length, slice_index_or, if◌then◌else◌}
 use Rattle.std.specs.Int.{int_min, int_max}
 use Rattle.cf_num.specs.Limit.{limit, IsWithin}
 use Rattle.cf_tree.specs.Numbers.{quotient}
 use Rattle.cf_tree.specs.Sets.{IsRising}
 use Rattle.cf_tree.specs.Values.{Value, number, truth, elements, number_of}
+use Rattle.cf_tree.specs.declared.base.Base.{Base}
+use Rattle.cf_tree.specs.declared.base.Base.TheVariants.{Int, Bool as Truth, Set}
 use Rattle.cf_range.specs.declared.range.Range.{Range}
 
 abbrev pub between : ℤ → ℤ → Range
@@ -17,6 +19,25 @@ whole = between (neg_ℤ (pos limit)) (pos limit)
 -- a number within the limit that is in the range
 abbrev pub LiesIn : Range → ℤ → Type 0
 LiesIn r z = IsWithin z × (r.low ≤ℤ z) × (z ≤ℤ r.high)
+
+-- how many elements a set may have that a machine holds, each of which takes a byte at least
+abbrev pub most_elements : ℕ
+most_elements = 9223372036854775807
+
+abbrev pub IsHeld : Value → Type 0
+IsHeld (number z) = Unit {0}
+IsHeld (truth b) = Unit {0}
+IsHeld (elements zs) = length zs ≤ most_elements
+
+abbrev pub AreHeld : List Value → Type 0
+AreHeld [] = Unit {0}
+AreHeld (v ∷ vs) = IsHeld v × AreHeld vs
+
+-- what is known of a parameter
+abbrev pub param_range : Base → Range
+param_range Int = whole
+param_range Truth = whole
+param_range Set = between (pos 0) (pos most_elements)
 
 -- the range of a variable, by its level
 abbrev pub range_at : List Range → ℕ → Range

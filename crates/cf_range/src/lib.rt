@@ -7,6 +7,7 @@ mod codes;
 mod comparison;
 mod counts;
 mod dropping;
+mod params;
 mod put;
 mod range;
 mod ranges;
@@ -16,6 +17,7 @@ mod tidy;
 mod total;
 
 pub use crate::codes::{may_pass, range_of};
+pub use crate::params::param_ranges;
 pub use crate::range::Range;
 pub use crate::tidy::tidied;
 pub use crate::total::is_total;
