@@ -1,0 +1,12 @@
+use Rattle.std.proofs.Common.{subst}
+use Rattle.cf_linear.specs.Systems.{least}
+use Rattle.cf_plan.specs.Building.{SameLeaf, leaf_of}
+use Rattle.cf_plan.specs.Leaves.{let_unknown}
+use Rattle.cf_plan.proofs.leaf_builder.LeafBuilder.let_least.Goals as goal
+
+pub returns : goal.returns
+returns c = (
+  subst (λ bs. SameLeaf (leaf_of c.let_unknown.new.self) (let_unknown (leaf_of c.args.self.now) c.args.x (least bs))) c.in-Ok.ensures.0
+      c.in_ok-let_unknown.ensures,
+  c.in-Ok.ensures.1,
+)

@@ -1,0 +1,52 @@
+//! Plans: trees of steps and ends, and what the kernel makes of a choose by one.
+#![tactic(auto)]
+
+mod back;
+mod choose_code;
+mod cleaning;
+mod columns;
+mod counts;
+mod dropping;
+mod ending;
+mod facts;
+mod fault;
+mod follow;
+mod forget;
+mod formula_code;
+mod gone;
+mod growth;
+mod holding;
+mod inverse;
+mod item;
+mod last;
+pub mod laws;
+mod leaf;
+mod leaf_builder;
+mod limits;
+mod needing;
+mod next;
+mod parallel;
+mod passing;
+mod put_in;
+mod residue;
+mod rising;
+mod rounding;
+mod rows;
+mod search;
+mod shift;
+mod start;
+mod step;
+mod summing;
+mod system;
+mod turn;
+mod why;
+
+pub use crate::choose_code::planned;
+pub use crate::fault::{PlanFault, StepFault};
+pub use crate::follow::followed;
+pub use crate::growth::growth_of;
+pub use crate::item::PlanItem;
+pub use crate::limits::{MOST_ATOMS, MOST_DEPTH, MOST_LEAVES, MOST_STEPS};
+pub use crate::next::{Made, Next};
+pub use crate::step::stepped;
+pub use crate::why::Why;

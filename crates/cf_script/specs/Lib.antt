@@ -1,0 +1,10 @@
+pub mod Plans
+pub mod Views
+pub mod Words
+pub mod Blocks
+pub mod Spelling
+pub mod Reading
+pub mod Answers
+pub mod Spelled
+pub mod Printed
+pub mod ReadsBack
