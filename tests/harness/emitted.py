@@ -243,6 +243,11 @@ class Asked:
     def name(self) -> str:
         return self.program.name
 
+    @property
+    def names_sets(self) -> bool:
+        """Whether the source speaks of sets, which its target may not: a function that nothing calls is in none."""
+        return SETS.search(self.program.source) is not None
+
     @cached_property
     def module(self) -> str:
         return f"p{self.number}"
@@ -401,7 +406,7 @@ def try_goals(room: Room, asked: Asked, these: Takers, counts: Counts) -> Iterat
     seen = emit(room, "smt")
     if seen.status == NO_SETS:
         counts.add("smt", "without a form")
-        yield equal(f"emitted {asked.name}, smt", (seen.err, b"no sets in smt\n"), (asked.has_sets, True))
+        yield equal(f"emitted {asked.name}, smt", (seen.err, b"no sets in smt\n"), (asked.names_sets, True))
         return
     yield equal(f"emitted {asked.name}, smt", ((seen.status, seen.err), (0, b"")))
     goals = seen.out.count(b"\n(check-sat)")

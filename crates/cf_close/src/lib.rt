@@ -8,8 +8,6 @@ mod fault;
 mod node;
 mod problem;
 mod refutation;
-#[cfg(test)]
-mod tests;
 
 pub use crate::closing::{Action, Answer, Guide, close};
 pub use crate::fact::{Conflict, Fact, FactKind, Multiple};

@@ -1,5 +1,6 @@
 pub mod AnswerLaws
 pub mod CountingLaws
 pub mod TryingLaws
-pub mod WitnessLaws
+pub mod PointLaws
 mod Examples
+mod PointExamples

@@ -1,26 +1,49 @@
-//! A relation that tells outputs, to be tried as a witness: of an equation in which each output is added so many times,
-//! the greatest number of times first, each output is as great as the others leave it. Nothing is promised of it.
+//! A point that is guessed: of an equation in which each output is added so many times, the greatest number of times first,
+//! each output is as great as the others leave it, or as near to that as a whole number can be. Nothing is promised of it.
+use crate::points::{Board, Placed};
 use cf_choose::Solved;
 use cf_tree::{Base, NoMemory, Order, Rel, Term, add_u32, to_u32, without};
 use std::alloc::Global;
 
 /// A variable, and how often a form has it.
 #[derive(Clone, Copy)]
-pub(crate) struct Share {
-    pub level: u32,
-    pub entry: i128,
+struct Share {
+    level: u32,
+    entry: i128,
 }
 
-/// The relation, if the outputs are numbers and such an equation is there.
-pub(crate) fn guessed(alloc: Global, solved: &Solved) -> Result<Option<Rel>, NoMemory> {
-    if !are_numbers(solved.outputs()) {
-        return Ok(None);
-    }
+/// How a number of times is made whole.
+#[derive(Clone, Copy, PartialEq, Eq)]
+pub(crate) enum Rounding {
+    Down,
+    Nearest,
+}
+
+// What is guessed: the levels of the outputs, from the first on below the end, and how numbers are made whole.
+#[derive(Clone, Copy)]
+struct Aim {
+    first: u32,
+    end: u32,
+    rounding: Rounding,
+}
+
+/// The point, if the outputs are numbers and such an equation is there.
+pub(crate) fn guessed(
+    alloc: Global,
+    solved: &Solved,
+    rounding: Rounding,
+) -> Result<Option<Board>, NoMemory> {
     let first = to_u32(solved.scope().len())?;
     let end = add_u32(first, to_u32(solved.outputs().len())?)?;
-    in_relation(alloc, solved.relation(), first, end)
+    let aim = Aim {
+        first,
+        end,
+        rounding,
+    };
+    in_relation(alloc, solved.relation(), aim)
 }
 
+/// Whether all are bases of numbers.
 pub(crate) fn are_numbers(bases: &[Base]) -> bool {
     for base in bases {
         if *base != Base::Int {
@@ -30,19 +53,19 @@ pub(crate) fn are_numbers(bases: &[Base]) -> bool {
     true
 }
 
-// What the first equation tells that is not negated, and has the outputs of the levels from the first on below the end.
-fn in_relation(alloc: Global, rel: &Rel, first: u32, end: u32) -> Result<Option<Rel>, NoMemory> {
+// What the first equation tells that is not negated, and has the outputs.
+fn in_relation(alloc: Global, rel: &Rel, aim: Aim) -> Result<Option<Board>, NoMemory> {
     match rel {
         Rel::Compare { order, left, right } => {
             if *order == Order::Eq {
-                in_equation(alloc, left, right, first, end)
+                in_equation(alloc, left, right, aim)
             } else {
                 Ok(None)
             }
         }
-        Rel::And(a, b) | Rel::Or(a, b) => match in_relation(alloc, a, first, end)? {
+        Rel::And(a, b) | Rel::Or(a, b) => match in_relation(alloc, a, aim)? {
             Some(told) => Ok(Some(told)),
-            None => in_relation(alloc, b, first, end),
+            None => in_relation(alloc, b, aim),
         },
         Rel::True | Rel::False => Ok(None),
         Rel::Divides { .. } => Ok(None),
@@ -56,17 +79,11 @@ fn in_equation(
     alloc: Global,
     left: &Term,
     right: &Term,
-    first: u32,
-    end: u32,
-) -> Result<Option<Rel>, NoMemory> {
-    let difference = minus(alloc, left, right)?;
-    match told_by(alloc, &difference, first, end)? {
-        Some(told) => Ok(without(difference, Some(told))),
-        None => {
-            drop(difference);
-            let turned = minus(alloc, right, left)?;
-            told_by(alloc, &turned, first, end)
-        }
+    aim: Aim,
+) -> Result<Option<Board>, NoMemory> {
+    match told_by(alloc, minus(alloc, left, right)?, aim)? {
+        Some(told) => Ok(Some(told)),
+        None => told_by(alloc, minus(alloc, right, left)?, aim),
     }
 }
 
@@ -79,15 +96,24 @@ fn minus(alloc: Global, left: &Term, right: &Term) -> Result<Term, NoMemory> {
 }
 
 // What the number form tells, which is to be 0, if it has each output less than 0 times.
-fn told_by(alloc: Global, form: &Term, first: u32, end: u32) -> Result<Option<Rel>, NoMemory> {
-    match shares_of(alloc, form, first, end)? {
-        Some(shares) => {
-            let mut shares = shares;
-            put_in_order(&mut shares);
-            Ok(Some(told(alloc, form, &shares)?))
-        }
-        None => Ok(None),
-    }
+fn told_by(alloc: Global, form: Term, aim: Aim) -> Result<Option<Board>, NoMemory> {
+    let told = match shares_of(alloc, &form, aim.first, aim.end) {
+        Ok(Some(shares)) => told_in_order(alloc, &form, shares, aim),
+        Ok(None) => Ok(None),
+        Err(fault) => Err(fault),
+    };
+    without(form, told)
+}
+
+fn told_in_order(
+    alloc: Global,
+    form: &Term,
+    shares: Vec<Share>,
+    aim: Aim,
+) -> Result<Option<Board>, NoMemory> {
+    let mut shares = shares;
+    put_in_order(&mut shares);
+    Ok(Some(told(alloc, form, &shares, aim)?))
 }
 
 // How often each output is taken away, if each is.
@@ -179,66 +205,63 @@ fn put(shares: &mut [Share], place: usize, share: Share) {
     }
 }
 
-// That of the form each output in order leaves less than its entry, and not less than 0.
-fn told(alloc: Global, form: &Term, shares: &[Share]) -> Result<Rel, NoMemory> {
-    let mut all = Rel::True;
-    for place in 0..shares.len() {
-        let rest = rest_behind(alloc, form, &shares[place..])?;
-        all = and_left(alloc, all, rest, shares[place].entry)?;
+// The point at which each output in order takes as much of the form as it can.
+fn told(alloc: Global, form: &Term, shares: &[Share], aim: Aim) -> Result<Board, NoMemory> {
+    let mut board = Board::new(alloc);
+    let mut forms = zeros(alloc, shares.len())?;
+    for share in shares {
+        let rest = rest_of(alloc, form, aim.first, &forms)?;
+        let part = part_of(alloc, rest, share.entry, aim.rounding)?;
+        let named = board.name(aim.first, part)?;
+        put_form(&mut forms, share.level.saturating_sub(aim.first), named);
     }
-    Ok(all)
+    board.push(forms)?;
+    Ok(board)
 }
 
-// The form without the outputs behind the first of these.
-fn rest_behind(alloc: Global, form: &Term, shares: &[Share]) -> Result<Term, NoMemory> {
-    let mut rest = form.try_copy(alloc)?;
-    for place in 1..shares.len() {
-        rest = plus(alloc, rest, shares[place])?;
+fn zeros(alloc: Global, count: usize) -> Result<Vec<Term>, NoMemory> {
+    let mut forms = Vec::new(alloc);
+    for _ in 0..count {
+        forms.push(Term::Lit(0))?;
     }
-    Ok(rest)
+    Ok(forms)
 }
 
-/// The form, and a variable so many times.
-pub(crate) fn plus(alloc: Global, form: Term, share: Share) -> Result<Term, NoMemory> {
-    match times(alloc, share) {
-        Ok(more) => Ok(Term::Add(Box::new(alloc, form)?, more)),
-        Err(fault) => Err(without(form, fault)),
-    }
+// The form, with these forms in the place of the outputs.
+fn rest_of(alloc: Global, form: &Term, scope: u32, forms: &[Term]) -> Result<Term, NoMemory> {
+    form.rebuilt(
+        alloc,
+        &Placed {
+            alloc,
+            scope,
+            forms,
+        },
+    )
 }
 
-fn times(alloc: Global, share: Share) -> Result<Box<Term>, NoMemory> {
-    let factor = Box::new(alloc, Term::Lit(share.entry))?;
-    let variable = Box::new(alloc, Term::Var(share.level))?;
-    Ok(Box::new(alloc, Term::Mul(factor, variable))?)
-}
-
-// That the relation holds, and the form is at least 0 and below the entry.
-fn and_left(alloc: Global, all: Rel, form: Term, entry: i128) -> Result<Rel, NoMemory> {
-    match left_between(alloc, form, entry) {
-        Ok(left) => Ok(Rel::And(Box::new(alloc, all)?, left)),
-        Err(fault) => Err(without(all, fault)),
-    }
-}
-
-fn left_between(alloc: Global, form: Term, entry: i128) -> Result<Box<Rel>, NoMemory> {
+// How often the entry goes into the form.
+fn part_of(alloc: Global, form: Term, entry: i128, rounding: Rounding) -> Result<Term, NoMemory> {
     if entry == 1 {
-        return Ok(Box::new(alloc, compare(alloc, Order::Eq, form, 0)?)?);
+        return Ok(form);
     }
-    let low = compare(alloc, Order::Ge, form.try_copy(alloc)?, 0)?;
-    match compare(alloc, Order::Lt, form, entry) {
-        Ok(high) => both(alloc, low, high),
-        Err(fault) => Err(without(low, fault)),
+    let whole = match rounding {
+        Rounding::Down => form,
+        Rounding::Nearest => plus(alloc, form, entry / 2)?,
+    };
+    Ok(Term::Div(Box::new(alloc, whole)?, entry))
+}
+
+fn plus(alloc: Global, form: Term, number: i128) -> Result<Term, NoMemory> {
+    let form = Box::new(alloc, form)?;
+    match Box::new(alloc, Term::Lit(number)) {
+        Ok(number) => Ok(Term::Add(form, number)),
+        Err(_) => Err(without(form, NoMemory)),
     }
 }
 
-fn compare(alloc: Global, order: Order, form: Term, with: i128) -> Result<Rel, NoMemory> {
-    let left = Box::new(alloc, form)?;
-    let right = Box::new(alloc, Term::Lit(with))?;
-    Ok(Rel::Compare { order, left, right })
-}
-
-fn both(alloc: Global, a: Rel, b: Rel) -> Result<Box<Rel>, NoMemory> {
-    let first = Box::new(alloc, a)?;
-    let second = Box::new(alloc, b)?;
-    Ok(Box::new(alloc, Rel::And(first, second))?)
+fn put_form(forms: &mut [Term], place: u32, form: Term) {
+    match forms.get_mut(place as usize) {
+        Some(at) => *at = form,
+        None => drop(form),
+    }
 }

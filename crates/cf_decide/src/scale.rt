@@ -4,9 +4,6 @@ use cf_guide::Limits;
 /// The most variables of a question of which a refutation is looked for.
 pub const MOST_VARIABLES: usize = 400;
 
-/// The most variables of a question on a witness.
-const MOST_WITNESS_VARIABLES: usize = 4_000;
-
 /// How many variables a question may have, and the limits of its search.
 #[derive(Clone, Copy)]
 pub(crate) struct Scale {
@@ -31,10 +28,10 @@ impl Scale {
         }
     }
 
-    /// Of a witness, of which there may be several.
-    pub(crate) fn witness() -> Scale {
+    /// Of points, of which there may be several.
+    pub(crate) fn points() -> Scale {
         Scale {
-            variables: MOST_WITNESS_VARIABLES,
+            variables: MOST_VARIABLES,
             limits: Limits {
                 splits: 600,
                 pivots: 2_000,

@@ -1,11 +1,12 @@
 //! What a search finds of a question.
-ghost use Rattle.std.specs.Prelude.{◌≡◌, [], true, IfOk};
+ghost use Rattle.std.specs.Prelude.{◌≡◌, [], true, Ok, IfOk};
 ghost use Rattle.cf_tree.specs.RelView.{rel_tree};
 ghost use Rattle.cf_tree.specs.Relation.{IsTyped, IsLinear, Sol};
 ghost use Rattle.cf_eval.specs.Seen.{plains};
 ghost use Rattle.cf_guide.specs.declared.guide.Outcome.TheVariants.{Closed};
 ghost use Rattle.cf_read.specs.Reading.{NeverHolds};
 ghost use Rattle.cf_decide.specs.Finding.{IsFound};
+ghost use Rattle.cf_decide.specs.declared.searching.Found.TheVariants.{Never};
 
 use crate::samples::values_at;
 use crate::scale::Scale;
@@ -15,7 +16,6 @@ use cf_guide::{Ending, Outcome};
 use cf_holds::{HoldFault, have_bases, holds_at};
 use cf_refute::refute;
 use cf_tree::{Base, NoMemory, Rel, without};
-use cf_warn::Doubt;
 use std::alloc::Global;
 
 // What is found of a question.
@@ -26,11 +26,6 @@ pub(crate) enum Found {
     // These do.
     At(Vec<Value>),
     Nothing,
-}
-
-// What stands for the doubt of a search that finds nothing: it is not told.
-pub(crate) fn untold() -> Doubt {
-    Doubt::Overflow
 }
 
 // What a search of this scale finds of the relation over variables of these bases.
@@ -135,5 +130,17 @@ fn solves(alloc: Global, bases: &[Base], rel: &Rel, values: &[Value]) -> Result<
         Ok(holds) => Ok(holds),
         Err(HoldFault::Past) => Ok(false),
         Err(HoldFault::NoMemory) => Err(NoMemory),
+    }
+}
+
+/// Whether it is found that nothing satisfies the question.
+pub(crate) fn is_never(found: Result<Found, NoMemory>) -> Result<bool, NoMemory>
+    ensures { IfOk result (λ b. b ≡ true → found ≡ Ok Never) }
+{
+    match found {
+        Ok(Found::Never) => Ok(true),
+        Ok(Found::At(_)) => Ok(false),
+        Ok(Found::Nothing) => Ok(false),
+        Err(fault) => Err(fault),
     }
 }

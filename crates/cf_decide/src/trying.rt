@@ -80,8 +80,8 @@ fn missing_next(
     }
 }
 
-// The sample of this environment, if the arms have no solution in it.
-fn missing_at(
+/// The sample of this environment, if the arms have no solution in it.
+pub(crate) fn missing_at(
     alloc: Global,
     solved: &Solved,
     params: &[u32],

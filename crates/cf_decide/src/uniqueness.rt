@@ -1,5 +1,5 @@
 //! Whether outputs are the only ones.
-ghost use Rattle.std.specs.Prelude.{◌≡◌, ◌+◌, ◌≤◌, length, IfOk};
+ghost use Rattle.std.specs.Prelude.{◌≡◌, ◌+◌, ◌≤◌, length, IfOk, IfSome};
 ghost use Rattle.cf_tree.specs.RelView.{rel_tree};
 ghost use Rattle.cf_tree.specs.Relation.{IsTyped, IsLinear};
 ghost use Rattle.cf_warn.specs.Answering.{IsTwoOf};
@@ -10,7 +10,7 @@ ghost use Rattle.cf_decide.specs.Finding.{IsFound};
 use crate::counts::search_counts;
 use crate::effort::Effort;
 use crate::scale::Scale;
-use crate::searching::{Found, search, untold};
+use crate::searching::{Found, search};
 use crate::second::two_solutions;
 use cf_choose::Solved;
 use cf_eval::Value;
@@ -47,27 +47,23 @@ fn by_elimination(
     uniqueness(alloc, solved, shown)
 }
 
-// What a search finds, or what the elimination tells.
+// What is found, or what the elimination tells.
 fn by_refutation(alloc: Global, solved: &Solved, shown: usize) -> Result<UniquenessAnswer, NoMemory>
     ensures { IfOk result (SaysUniqueness solved.now.scope.items solved.now.outputs.items shown (rel_tree solved.now.rel)) }
 {
-    let answer = by_search(alloc, solved, shown)?;
-    if !is_undecided(&answer) {
-        return Ok(answer);
-    }
-    drop(answer);
-    by_elimination(alloc, solved, shown)
-}
-
-fn is_undecided(answer: &UniquenessAnswer) -> bool {
-    match answer {
-        UniquenessAnswer::Undecided(_) => true,
-        UniquenessAnswer::Unique | UniquenessAnswer::Two { .. } => false,
+    match by_search(alloc, solved, shown)? {
+        Some(answer) => Ok(answer),
+        None => by_elimination(alloc, solved, shown),
     }
 }
 
-fn by_search(alloc: Global, solved: &Solved, shown: usize) -> Result<UniquenessAnswer, NoMemory>
-    ensures { IfOk result (SaysUniqueness solved.now.scope.items solved.now.outputs.items shown (rel_tree solved.now.rel)) }
+// What a search finds, if anything.
+fn by_search(
+    alloc: Global,
+    solved: &Solved,
+    shown: usize,
+) -> Result<Option<UniquenessAnswer>, NoMemory>
+    ensures { IfOk result (λ found. IfSome found (SaysUniqueness solved.now.scope.items solved.now.outputs.items shown (rel_tree solved.now.rel))) }
 {
     let params = parameters(alloc, solved)?;
     let count = params.len();
@@ -150,17 +146,17 @@ fn answer(
     count: usize,
     shown: usize,
     found: Found,
-) -> Result<UniquenessAnswer, NoMemory>
+) -> Result<Option<UniquenessAnswer>, NoMemory>
     requires count { count ≡ length (parameters solved.now.scope.items (rel_tree solved.now.rel)) }
     requires found { IsFound (twice_outputs solved.now.scope.items solved.now.outputs.items (rel_tree solved.now.rel))
         (twice solved.now.scope.items solved.now.outputs.items shown (rel_tree solved.now.rel)) found }
-    ensures { IfOk result (SaysUniqueness solved.now.scope.items solved.now.outputs.items shown (rel_tree solved.now.rel)) }
+    ensures { IfOk result (λ found. IfSome found (SaysUniqueness solved.now.scope.items solved.now.outputs.items shown (rel_tree solved.now.rel))) }
 {
     let outputs = solved.outputs().len();
     match found {
-        Found::Never => Ok(UniquenessAnswer::Unique),
-        Found::At(values) => two(values, count, outputs),
-        Found::Nothing => Ok(UniquenessAnswer::Undecided(untold())),
+        Found::Never => Ok(Some(UniquenessAnswer::Unique)),
+        Found::At(values) => Ok(Some(two(values, count, outputs)?)),
+        Found::Nothing => Ok(None),
     }
 }
 

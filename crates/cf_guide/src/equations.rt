@@ -125,8 +125,7 @@ fn solve_by(
         fact: pick.fact,
     };
     all_leave(alloc, frame, facts, solved, pick.entry, plan)?;
-    frame.solved.push(solved)?;
-    Ok(())
+    frame.solve(solved)
 }
 
 // The equation with the smallest entry, of those the shortest.
@@ -215,8 +214,7 @@ fn define(
     work.plan
         .push(Action::Define(column, nearest(alloc, row, pick)?))?;
     all_leave(alloc, frame, facts, solved, 1, &mut work.plan)?;
-    frame.solved.push(solved)?;
-    Ok(())
+    frame.solve(solved)
 }
 
 // The picked column and, of each other one and the constant, its entry over the picked one, rounded to the nearest.

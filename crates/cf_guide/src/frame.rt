@@ -31,6 +31,8 @@ pub(crate) enum Start {
 pub(crate) struct Frame {
     /// In the order in which they were solved.
     pub solved: Vec<Solved>,
+    /// Whether each fact solves a column, so far as one does.
+    solving: Vec<bool>,
     /// So many first facts have no solved column.
     pub clean: usize,
     /// How many splits lead here, but for those at fractions.
@@ -49,6 +51,7 @@ impl Frame {
     pub(crate) fn root(alloc: Global) -> Frame {
         Frame {
             solved: Vec::new(alloc),
+            solving: Vec::new(alloc),
             clean: 0,
             depth: 0,
             fractions: 0,
@@ -61,12 +64,14 @@ impl Frame {
     /// An equal frame.
     pub(crate) fn try_copy(&self, alloc: Global) -> Result<Frame, Stop> {
         let solved = Vec::from_slice(alloc, &self.solved)?;
+        let solving = Vec::from_slice(alloc, &self.solving)?;
         let simplex = match self.copy_simplex(alloc) {
             Ok(simplex) => simplex,
-            Err(stop) => return Err(without(solved, stop)),
+            Err(stop) => return Err(without(solved, without(solving, stop))),
         };
         Ok(Frame {
             solved,
+            solving,
             clean: self.clean,
             depth: self.depth,
             fractions: self.fractions,
@@ -104,14 +109,25 @@ impl Frame {
         takes
     }
 
+    /// From now on the fact solves the column.
+    pub(crate) fn solve(&mut self, solved: Solved) -> Result<(), Stop> {
+        let fact = solved.fact;
+        if fact >= self.solving.len() {
+            self.solving.resize(fact.saturating_add(1), false)?;
+        }
+        if let Some(solving) = self.solving.get_mut(fact) {
+            *solving = true;
+        }
+        self.solved.push(solved)?;
+        Ok(())
+    }
+
     /// Whether the fact solves a column.
     pub(crate) fn solves(&self, fact: usize) -> bool {
-        for solved in &self.solved {
-            if solved.fact == fact {
-                return true;
-            }
+        match self.solving.get(fact) {
+            Some(solving) => *solving,
+            None => false,
         }
-        false
     }
 
     /// Whether the fact is an inequality with columns, or an equation that solves none.

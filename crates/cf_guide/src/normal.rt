@@ -1,9 +1,8 @@
 //! Facts without common divisors, no two of which say the same.
 use crate::frame::Frame;
 use crate::plan::Plan;
-use crate::rows::{Likeness, column_count, compared, divisor, is_opposite, last_entry, lone, two};
+use crate::rows::{Likeness, column_count, compared, divisor, last_entry, lone, two};
 use cf_close::{Action, Fact, FactKind};
-use cf_linear::Row;
 use cf_simplex::{Stop, total};
 use std::alloc::Global;
 
@@ -53,25 +52,48 @@ pub(crate) fn settle_pairs(
     facts: &[Fact],
     plan: &mut Plan,
 ) -> Result<(), Stop> {
+    let ends = ends_of(alloc, frame, facts)?;
     for (place, fact) in facts.iter().enumerate() {
-        if is_inequality(frame, fact, place) {
-            match against(frame, facts, place, fact)? {
-                Pair::Weaker(weaker) => {
-                    plan.push(Action::Replace(weaker, Vec::new(alloc)))?;
-                }
-                Pair::Equal(other) => return plan.only(Action::Equate(other, place)),
-                Pair::Conflict(other) => {
-                    return plan.refute(alloc, two(alloc, (other, 1), (place, 1))?);
-                }
-                Pair::Apart => {}
+        match against(&ends, facts, place, fact)? {
+            Pair::Weaker(weaker) => {
+                plan.push(Action::Replace(weaker, Vec::new(alloc)))?;
             }
+            Pair::Equal(other) => return plan.only(Action::Equate(other, place)),
+            Pair::Conflict(other) => {
+                return plan.refute(alloc, two(alloc, (other, 1), (place, 1))?);
+            }
+            Pair::Apart => {}
         }
     }
     Ok(())
 }
 
-fn is_inequality(frame: &Frame, fact: &Fact, place: usize) -> bool {
-    fact.kind == FactKind::Inequality && frame.is_live(fact, place)
+/// The last column of an inequality and the size of its entry, which inequalities share that have all columns in common. Column 0
+/// of other facts.
+#[derive(Clone, Copy, PartialEq, Eq)]
+struct End {
+    column: u32,
+    size: u128,
+}
+
+fn ends_of(alloc: Global, frame: &Frame, facts: &[Fact]) -> Result<Vec<End>, Stop> {
+    let mut ends = Vec::new(alloc);
+    for (place, fact) in facts.iter().enumerate() {
+        ends.push(end_of(frame, fact, place))?;
+    }
+    Ok(ends)
+}
+
+fn end_of(frame: &Frame, fact: &Fact, place: usize) -> End {
+    let (column, entry) = if fact.kind == FactKind::Inequality && frame.is_live(fact, place) {
+        last_entry(&fact.row)
+    } else {
+        (0, 0)
+    };
+    End {
+        column,
+        size: entry.unsigned_abs(),
+    }
 }
 
 /// What an inequality and an earlier one come to.
@@ -86,14 +108,21 @@ enum Pair {
     Apart,
 }
 
-// What an inequality and the first earlier one that it has to do with come to.
-fn against(frame: &Frame, facts: &[Fact], place: usize, fact: &Fact) -> Result<Pair, Stop> {
-    for (other, earlier) in facts.iter().enumerate() {
+// What a fact and the first earlier one that it has to do with come to.
+fn against(ends: &[End], facts: &[Fact], place: usize, fact: &Fact) -> Result<Pair, Stop> {
+    let own = match ends.get(place) {
+        Some(end) => *end,
+        None => return Ok(Pair::Apart),
+    };
+    if own.column == 0 {
+        return Ok(Pair::Apart);
+    }
+    for (other, end) in ends.iter().enumerate() {
         if other >= place {
             return Ok(Pair::Apart);
         }
-        if ends_alike(&earlier.row, &fact.row) && is_inequality(frame, earlier, other) {
-            match between(other, earlier, place, fact)? {
+        if *end == own {
+            match with_earlier(facts, other, place, fact)? {
                 Pair::Apart => {}
                 pair => return Ok(pair),
             }
@@ -102,11 +131,11 @@ fn against(frame: &Frame, facts: &[Fact], place: usize, fact: &Fact) -> Result<P
     Ok(Pair::Apart)
 }
 
-// Whether two rows end in one column with the same or the opposite entry, as those do that have all in common.
-fn ends_alike(x: &Row, y: &Row) -> bool {
-    let (column, entry) = last_entry(x);
-    let (other, number) = last_entry(y);
-    column == other && (entry == number || is_opposite(entry, number))
+fn with_earlier(facts: &[Fact], other: usize, place: usize, fact: &Fact) -> Result<Pair, Stop> {
+    match facts.get(other) {
+        Some(earlier) => between(other, earlier, place, fact),
+        None => Ok(Pair::Apart),
+    }
 }
 
 fn between(other: usize, earlier: &Fact, place: usize, fact: &Fact) -> Result<Pair, Stop> {

@@ -16,6 +16,8 @@ mod passes;
 #[cfg(test)]
 mod printing;
 #[cfg(test)]
+mod refutations;
+#[cfg(test)]
 mod told;
 #[cfg(test)]
 mod unreached;

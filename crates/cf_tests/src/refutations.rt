@@ -1,9 +1,8 @@
-//! One example for each operation.
-use crate::closing::{Action, Answer, Guide, close};
-use crate::fact::{Conflict, Fact, FactKind, Multiple};
-use crate::fault::Fault;
-use crate::problem::{Conjunction, Or, Problem};
-use crate::refutation::Refutation;
+//! Refutations: one example for each operation.
+use cf_close::{
+    Action, Answer, Conflict, Conjunction, Fact, FactKind, Fault, Guide, Multiple, Or, Problem,
+    Refutation, close,
+};
 use cf_linear::Row;
 use std::alloc::Global;
 
