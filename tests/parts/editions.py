@@ -1,4 +1,4 @@
-"""The examples of language 2 under the header of edition 3: each command writes the same, but for a target's header, and places and answers of `check`."""
+"""The examples of language 2 under the header of edition 3: each command but `pre` writes the same, but for a target's header, and places and answers of `check`."""
 
 from __future__ import annotations
 
@@ -13,7 +13,7 @@ from harness.jobs import Job
 from harness.program import NO_INPUT, Room
 
 HEADER = b"comfusy 3\n"
-COMMANDS = "compile", "pre", "check", "prove"
+COMMANDS = "compile", "check", "prove"
 
 # Where `check` of edition 3 decides what language 2 leaves undecided in an example, or tells another sample.
 CHECKED_OTHERWISE = {

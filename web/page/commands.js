@@ -27,7 +27,7 @@ export const commands = [
   },
   {
     name: 'pre',
-    question: 'For which inputs does each `choose` have outputs? `v0` is the first input, and all lines with `need` have to hold.',
+    question: 'For which inputs does each `choose` have outputs? Exactly where the relation behind the colon holds.',
     reads: 'nothing',
     shows: 'written',
     flags: [],

@@ -45,12 +45,12 @@ export const tour = [
     text: [
       'Two numbers are wanted for their sum and their difference. For 10 and 3 there are none. `pre` says exactly when there are some, for all of the ' +
         'infinitely many inputs.',
-      '`v0` is the first input and `v1` the second. There are two such numbers exactly where 2 divides `-sum - difference`: where both are even, or ' +
-        'both are odd. The plot of the run tab shows the same.',
+      'There are two such numbers exactly where 2 divides `sum + difference`: where both are even, or both are odd. The plot of the run tab shows the ' +
+        'same. Such a relation may stand behind `given` as it is.',
     ],
     example: 'pair',
     tab: 'pre',
-    seen: ['need (2 divides ((-1 * v0) + (-1 * v1)));'],
+    seen: ['pre 1 (sum, difference): 2 divides sum + difference'],
   },
   {
     title: 'Check finds the mistake',

@@ -1,7 +1,14 @@
 -- The commands agree with each other.
 use Rattle.std.proofs.Common.{◌≡◌, ap, subst, refl, ℕ, ◌≤◌, false, not, List, [], ◌∷◌, length, map}
+use Rattle.std.specs.Prelude.{◌↔◌}
 use Rattle.cf_lex.specs.Editions.{edition_of}
 use Rattle.cf_tree.specs.ChooseTree.{ChooseTree}
+use Rattle.cf_tree.specs.Relation.{Holds, Sol}
+use Rattle.cf_tree.specs.RelTree.{RelTree}
+use Rattle.cf_tree.specs.Values.{Value, HaveBases}
+use Rattle.cf_choose.specs.Solved.{IsOf}
+use Rattle.cf_choose.specs.declared.solved.SolvedParts.{SolvedParts}
+use Rattle.cf_pre.specs.Preconditions.{IsPreconditionOf}
 use Rattle.cf_tree.specs.DefView.{TargetTree, target_tree}
 use Rattle.cf_tree.specs.declared.target.RawTarget.{RawTarget}
 use Rattle.cf_target.proofs.Only.{one_law}
@@ -13,7 +20,7 @@ use Rattle.cf_pass.specs.Passes.{Told}
 use Rattle.cf_words.specs.Commands.{exec}
 use Rattle.cf_words.specs.declared.command.Flags.{Flags}
 use Rattle.cf_words.specs.declared.command.ReplyForm.{ReplyForm}
-use Rattle.cf_answer.specs.Agreeing.{ProvedIsVerified, CompiledIsRun, NeedsAreChecked}
+use Rattle.cf_answer.specs.Agreeing.{ProvedIsVerified, CompiledIsRun, NeedsAreChecked, PreconditionsAreChecked}
 use Rattle.cf_answer.specs.Certificates.{OneForEach, IsProofOf, IsTraced}
 use Rattle.cf_answer.specs.Forms.{Wording, Form, form_of}
 use Rattle.cf_answer.specs.Limits.{of_target, most_of}
@@ -95,7 +102,17 @@ compiled_is_run flags asked name source given last ls text (t, c, p) short =
     }
 
 -- ---- what `pre` writes, and what `check` finds
+-- a precondition of a solved choose holds exactly where the choose has outputs
+holds_at : (q : ChooseTree) (s : SolvedParts) (rel : RelTree) → IsOf q.scope q.outputs q.relation s → IsPreconditionOf s rel →
+    (env : List Value) → HaveBases q.scope env → Holds rel env ↔ ((xs : List Value) × Sol q.outputs q.relation env xs)
+holds_at q s rel of p = rw (← of.same_scope, ← of.same_outputs, ← of.same_relation) p.holds
+
 pub needs_are_checked : NeedsAreChecked
 needs_are_checked q branch text Always p e = λ env h. (p.holds env h).1 (e.1 env h)
 needs_are_checked q branch text (Missing sample) p e = λ env at h. let xs = (p.holds env at.bases).0 h in e.2.unsolved env at xs.0 xs.1
 needs_are_checked q branch text (Undecided d) p e = tt
+
+pub preconditions_are_checked : PreconditionsAreChecked
+preconditions_are_checked q s rel Always of p e = λ env h. (holds_at q s rel of p env h).1 (e.1 env h)
+preconditions_are_checked q s rel (Missing sample) of p e = λ env at h. let xs = (holds_at q s rel of p env at.bases).0 h in e.2.unsolved env at xs.0 xs.1
+preconditions_are_checked q s rel (Undecided d) of p e = tt

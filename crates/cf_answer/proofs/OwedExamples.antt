@@ -65,7 +65,7 @@ module _ (form : ReplyForm) (written : Form) (name other source steps : List ℕ
       ((names : List (List ℕ)) × AreResultNames source names × OwesRun false (form_of form names) source given last ls text)
   of-plain_run = (λ h. h, λ h. h)
 
-  of-pre : Same (Owes (pre name) (source ∷ []) given last ls text) ((cs : List (ChooseTree × Branch)) × AreBranched source cs × ArePres cs text)
+  of-pre : Same (Owes (pre name) (source ∷ []) given last ls text) ((cs : List (ChooseTree × Branch)) × AreBranched source cs × ArePres (edition_of source) cs text)
   of-pre = (λ h. h, λ h. h)
 
   of-check : Same (Owes (check strictness.Told name) (source ∷ []) given last ls text)

@@ -41,7 +41,7 @@ owed_accepted (compile flags name) (file ∷ []) given passes ls text h =
     λ f r. compiled_unrefused (applied (not flags.plain) given) (applied (not flags.plain) passes) file h.0 f h.1.0 r
 owed_accepted (run flags form name) (file ∷ []) given passes ls text h =
     λ f r. run_unrefused (not flags.plain) (form_of form h.0) file given passes ls text f h.2 r
-owed_accepted (pre name) (file ∷ []) given passes ls text h = λ f r. pres_unrefused file h.0 text f h.1 h.2 r
+owed_accepted (pre name) (file ∷ []) given passes ls text h = λ f r. pres_unrefused (edition_of file) file h.0 text f h.1 h.2 r
 owed_accepted (check strictness name) (file ∷ []) given passes ls text h = λ f r. checks_unrefused (file_of (edition_of file) name h.1.program) file h.1.told h.1.typed h.1.checks h.0 f h.1.is h.1.lines r
 owed_accepted (exec form name) (file ∷ []) given passes ls text h = λ f r. typed_unrefused file (target_tree h.0) f h.1 r
 owed_accepted (prove name) (file ∷ []) given passes ls text h = λ f r. proofs_unrefused file h.0 text f h.1 h.2 r

@@ -5,6 +5,7 @@ use Rattle.std.proofs.lemmas.List.Sorted.{Contains-permutation}
 use Rattle.std.specs.Prelude.{Contains}
 use Rattle.cf_lex.specs.Editions.{edition_of}
 use Rattle.cf_tree.specs.declared.base.Edition.{Edition}
+use Rattle.cf_tree.specs.declared.base.Edition.TheVariants.{Two, Three}
 use Rattle.cf_tree.specs.DefView.{RawItemTree}
 use Rattle.cf_tree.specs.declared.target.RawTarget.{RawTarget}
 use Rattle.cf_parse.specs.Programs.{IsProgram, program_of}
@@ -25,7 +26,7 @@ use Rattle.cf_answer.specs.Checks.{AreChecksBehind}
 use Rattle.cf_answer.specs.Fronts.{File}
 use Rattle.cf_answer.specs.declared.unmet.Answered.{Answered}
 use Rattle.cf_answer.specs.Limits.{of_source}
-use Rattle.cf_answer.specs.Owed.{AllWritten, IsPreOf, ArePres, AreChecks}
+use Rattle.cf_answer.specs.Owed.{AllWritten, IsPreIn, ArePres, AreChecks}
 use Rattle.cf_answer.specs.Refusals.{IsBadProgram, unruly, refused, IsRefusedSource}
 use Rattle.cf_answer.specs.Sources.{SpellsProgram, IsTypedBy, IsTypedSource, Compiles}
 use Rattle.cf_answer.specs.Statuses.{refusal_status, fault_status}
@@ -116,10 +117,14 @@ module _ {Q : Type 0} (plain : Q → ChooseTree) (Is : Q → List ℕ → Type 0
   written_unrefused text typed cs written f s are owed h =
       within_unrefused text typed f s (subst (All IsWithin) are (written_within cs written owed)) h
 
-pub pres_unrefused : (text : List ℕ) (cs : List (ChooseTree × Branch)) (pres : List ℕ) (f : Fault) → AreBranched text cs → ArePres cs pres →
-    IsRefusedSource text f → ⊥
-pres_unrefused text cs pres f b owed h =
-    written_unrefused (λ c. c.0) (λ c. IsPreOf c.0 c.1) (λ c t p. p.within) text b.typed cs pres f b.is (branched_chooses text cs b) owed h
+pre_within : (edition : Edition) (q : ChooseTree) (branch : Branch) (text : List ℕ) → IsPreIn edition q branch text → limit_of q ≡ None
+pre_within Two q branch text p = p.within
+pre_within Three q branch text p = p.within
+
+pub pres_unrefused : (edition : Edition) (text : List ℕ) (cs : List (ChooseTree × Branch)) (pres : List ℕ) (f : Fault) → AreBranched text cs →
+    ArePres edition cs pres → IsRefusedSource text f → ⊥
+pres_unrefused edition text cs pres f b owed h =
+    written_unrefused (λ c. c.0) (λ c. IsPreIn edition c.0 c.1) (λ c. pre_within edition c.0 c.1) text b.typed cs pres f b.is (branched_chooses text cs b) owed h
 
 checks_within : (file : File) (ms : List MatchTree) (told : List ToldChoose) (before : ℕ) (qs : List ChooseTree) (text : List ℕ) (a : Answered) →
     AreChecksBehind file ms told before qs text a → All IsWithin qs

@@ -1,6 +1,7 @@
 -- What is written of solved chooses, one by one.
 use Rattle.std.proofs.Common.{◌≡◌, sym, ap, subst, refl, ℕ, zero, suc, ◌+◌, ◌<◌, ◌≤◌, List, [], ◌∷◌, ◌++◌, length, take, drop, get_or, arith, ◌∙◌, append_assoc, append-nil}
 use Rattle.std.proofs.lemmas.List.{take_more, take_all, drop_more, drop_all}
+use Rattle.cf_tree.specs.declared.base.Edition.{Edition}
 use Rattle.cf_tree.specs.RelTree.{rel_true}
 use Rattle.cf_tree.specs.ChooseTree.{ChooseTree}
 use Rattle.cf_build.specs.Solves.{IsSolved, AreSolved}
@@ -9,7 +10,7 @@ use Rattle.cf_build.proofs.SolveLists.{solved_number}
 use Rattle.cf_form.specs.Branches.{Branch}
 use Rattle.cf_form.specs.Told.{ToldChoose}
 use Rattle.cf_answer.specs.Branches.{coming, first_branch, in_branches}
-use Rattle.cf_answer.specs.Owed.{AllWritten, IsPreOf, ArePres}
+use Rattle.cf_answer.specs.Owed.{AllWritten, IsPreIn, ArePres}
 use Rattle.cf_answer.proofs.BranchLemmas.{IsSplit, next, split_first, split_next, split_last}
 
 -- the choose at a place is solved by the one there
@@ -61,17 +62,17 @@ module _ (Is : ChooseTree → List ℕ → Type 0) where
 
 -- ---- the preconditions of chooses in their branches
 -- those of so many first chooses are written, and these branches are left
-abbrev pub PresTo : List ToldChoose → List ChooseTree → ℕ → List Branch → List ℕ → Type 0
-PresTo told qs i left text = (done : List (ChooseTree × Branch)) × ArePres done text × IsSplit told qs done left (drop i qs)
+abbrev pub PresTo : Edition → List ToldChoose → List ChooseTree → ℕ → List Branch → List ℕ → Type 0
+PresTo edition told qs i left text = (done : List (ChooseTree × Branch)) × ArePres edition done text × IsSplit told qs done left (drop i qs)
 
-module _ (told : List ToldChoose) (qs : List ChooseTree) where
-  pub pres_first : PresTo told qs 0 [] []
+module _ (edition : Edition) (told : List ToldChoose) (qs : List ChooseTree) where
+  pub pres_first : PresTo edition told qs 0 [] []
   pres_first = ([], refl, split_first told qs)
 
   pub pres_next : (ss : List SolvedChoose) (i : ℕ) (x : SolvedChoose) (left behind : List Branch) (branch : Branch) (text new : List ℕ) → AreSolved qs ss →
       i < length ss → x ≡ get_or ss i x → branch ≡ first_branch (coming told left x.choose.number) → behind ≡ drop 1 (coming told left x.choose.number) →
-      PresTo told qs i left text → ((q : ChooseTree) → IsSolved q x → (pre : List ℕ) × (new ≡ text ++ pre) × IsPreOf q branch pre) →
-      PresTo told qs (i + 1) behind new
+      PresTo edition told qs i left text → ((q : ChooseTree) → IsSolved q x → (pre : List ℕ) × (new ≡ text ++ pre) × IsPreIn edition q branch pre) →
+      PresTo edition told qs (i + 1) behind new
   pres_next ss i x left behind branch text new s lt is here after (done, written, split) put =
       let place = solved_at qs ss i no_choose x s lt in
       let q : ChooseTree = get_or qs i no_choose in
@@ -82,15 +83,15 @@ module _ (told : List ToldChoose) (qs : List ChooseTree) where
       let same : branch ≡ first_branch (coming told left q.number) = here ∙ ap (λ n. first_branch (coming told left n)) number in
       let at : IsSplit told qs done left (q ∷ drop (i + 1) qs) = subst (λ xs. IsSplit told qs done left xs) (drop_more qs i no_choose place.0) split in (
         done ++ one ∷ [],
-        subst (ArePres (done ++ one ∷ [])) (sym p.1)
-            (written_append (λ c. IsPreOf c.0 c.1) done one text p.0 written (subst (λ b. IsPreOf q b p.0) same p.2)),
+        subst (ArePres edition (done ++ one ∷ [])) (sym p.1)
+            (written_append (λ c. IsPreIn edition c.0 c.1) done one text p.0 written (subst (λ b. IsPreIn edition q b p.0) same p.2)),
         split_next told qs done left behind q (drop (i + 1) qs) (after ∙ ap (λ n. drop 1 (coming told left n)) number) at,
       )
 
   -- all
-  pub pres_last : (ss : List SolvedChoose) (i : ℕ) (left : List Branch) (text : List ℕ) → AreSolved qs ss → length ss ≤ i → PresTo told qs i left text →
-      ArePres (in_branches told [] qs) text
+  pub pres_last : (ss : List SolvedChoose) (i : ℕ) (left : List Branch) (text : List ℕ) → AreSolved qs ss → length ss ≤ i → PresTo edition told qs i left text →
+      ArePres edition (in_branches told [] qs) text
   pres_last ss i left text s le (done, written, split) =
       let few : length qs ≤ i = omega (arith, le, as_many_solved qs ss s) in
       let end : IsSplit told qs done left [] = subst (λ xs. IsSplit told qs done left xs) (drop_all i qs few) split in
-      subst (λ ds. ArePres ds text) (sym (split_last told qs done left end)) written
+      subst (λ ds. ArePres edition ds text) (sym (split_last told qs done left end)) written

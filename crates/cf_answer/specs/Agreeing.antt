@@ -1,10 +1,15 @@
 -- How the commands agree with each other.
 use Rattle.std.specs.Prelude.{◌≡◌, ◌≤◌, ℕ, false, not, List, [], ◌∷◌, length}
 use Rattle.cf_tree.specs.ChooseTree.{ChooseTree}
+use Rattle.cf_tree.specs.Relation.{Holds}
+use Rattle.cf_tree.specs.RelTree.{RelTree}
 use Rattle.cf_tree.specs.Solving.{HoldSomewhere}
 use Rattle.cf_tree.specs.Values.{Value, HaveBases}
 use Rattle.cf_build.specs.Chooses.{choose_arms}
 use Rattle.cf_choose.specs.Precondition.{all_needs}
+use Rattle.cf_choose.specs.Solved.{IsOf}
+use Rattle.cf_choose.specs.declared.solved.SolvedParts.{SolvedParts}
+use Rattle.cf_pre.specs.Preconditions.{IsPreconditionOf}
 use Rattle.cf_eval.specs.Seen.{plains}
 use Rattle.cf_form.specs.Branches.{Branch}
 use Rattle.cf_pass.specs.Passes.{Told}
@@ -42,14 +47,21 @@ CompiledIsRun =
     Owes (compile flags name) (source ∷ []) given last ls text → length text ≤ most_of (of_target (edition_of source)) →
     Runs flags asked name source given last text
 
--- where `check` finds that a relation always has outputs, the needs that `pre` writes of it hold at each environment, and where it finds that it has none at a
--- sample, they hold at no environment of it; in edition 3 `check` may ask about another relation, which a condition and a branch have a part in
-abbrev pub NeedsAre : ChooseTree → ExistenceAnswer → Type 0
-NeedsAre q Always = (env : List Value) → HaveBases q.scope env → HoldSomewhere (all_needs (choose_arms q)) env
-NeedsAre q (Missing sample) = (env : List Value) → IsAt q.scope q.relation (plains sample.items) env → HoldSomewhere (all_needs (choose_arms q)) env → ⊥
-NeedsAre q (Undecided d) = Unit {0}
+-- where `check` finds that a relation always has outputs, this holds at each environment, and where it finds that it has none at a sample, at no environment of it
+abbrev pub HoldsAsChecked : (List Value → Type 0) → ChooseTree → ExistenceAnswer → Type 0
+HoldsAsChecked P q Always = (env : List Value) → HaveBases q.scope env → P env
+HoldsAsChecked P q (Missing sample) = (env : List Value) → IsAt q.scope q.relation (plains sample.items) env → P env → ⊥
+HoldsAsChecked P q (Undecided d) = Unit {0}
+
+-- the needs and the relations that `pre` writes hold as `check` finds; in edition 3 `check` may ask about another relation, which a condition and a branch have a
+-- part in
 
 abbrev pub NeedsAreChecked : Type 0
 NeedsAreChecked =
     (q : ChooseTree) (branch : Branch) (text : List ℕ) (answer : ExistenceAnswer) → IsPreOf q branch text →
-    IsExistence q.scope q.outputs q.relation answer → NeedsAre q answer
+    IsExistence q.scope q.outputs q.relation answer → HoldsAsChecked (HoldSomewhere (all_needs (choose_arms q))) q answer
+
+abbrev pub PreconditionsAreChecked : Type 0
+PreconditionsAreChecked =
+    (q : ChooseTree) (s : SolvedParts) (rel : RelTree) (answer : ExistenceAnswer) → IsOf q.scope q.outputs q.relation s → IsPreconditionOf s rel →
+    IsExistence q.scope q.outputs q.relation answer → HoldsAsChecked (Holds rel) q answer

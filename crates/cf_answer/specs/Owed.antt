@@ -19,6 +19,9 @@ use Rattle.cf_program.specs.Checked.{TypedTree, checked}
 use Rattle.cf_program.specs.declared.linearity.Linearity.TheVariants.{Plain}
 use Rattle.cf_form.specs.Told.{ToldChoose}
 use Rattle.cf_choose.specs.Precondition.{all_needs, IsPrecondition}
+use Rattle.cf_choose.specs.Solved.{IsOf}
+use Rattle.cf_choose.specs.declared.solved.SolvedParts.{SolvedParts}
+use Rattle.cf_pre.specs.Preconditions.{PrintedAnswer}
 use Rattle.cf_match.specs.Matches.{all_matches}
 use Rattle.cf_tree.specs.ChooseTree.{ChooseTree}
 use Rattle.cf_build.specs.Chooses.{all_chooses, by_number, limit_of, choose_arms}
@@ -122,9 +125,21 @@ abbrev pub AllWritten : {Q : Type 0} → (Q → List ℕ → Type 0) → List Q 
 AllWritten Is [] text = text ≡ []
 AllWritten Is (q ∷ qs) text = (first : List ℕ) × (more : List ℕ) × (text ≡ first ++ more) × Is q first × AllWritten Is qs more
 
+-- a choose of edition 3 passes no limit, and this is its printed precondition in a branch, in the words of its source
+pub record IsToldPreOf (q : ChooseTree) (branch : Branch) (text : List ℕ) : Type 0 where
+  pub within : limit_of q ≡ None
+  pub solved : SolvedParts
+  pub is : IsOf q.scope q.outputs q.relation solved
+  pub printed : PrintedAnswer q.number (valued 0 q.names branch) q.names solved text
+
+-- the precondition of a choose of a source of this edition
+abbrev pub IsPreIn : Edition → ChooseTree → Branch → List ℕ → Type 0
+IsPreIn Two q branch text = IsPreOf q branch text
+IsPreIn Three q branch text = IsToldPreOf q branch text
+
 -- the preconditions of chooses in their branches, in order
-abbrev pub ArePres : List (ChooseTree × Branch) → List ℕ → Type 0
-ArePres cs text = AllWritten (λ c. IsPreOf c.0 c.1) cs text
+abbrev pub ArePres : Edition → List (ChooseTree × Branch) → List ℕ → Type 0
+ArePres edition cs text = AllWritten (λ c. IsPreIn edition c.0 c.1) cs text
 
 -- chooses pass no limit, no set stands in one or in its arms, and this is the top of a file of this source, and what is claimed of them, in order
 pub record AreGoals (source : List ℕ) (cs : List (ChooseTree × Branch)) (text : List ℕ) : Type 0 where
@@ -184,7 +199,7 @@ abbrev pub Owes : Command → List (List ℕ) → List Told → List Told → Li
 Owes (compile flags name) (file ∷ []) given last ls text =
     (t : RawTarget) × IsCompiledBy (not flags.plain) file given last t × IsPrinted (edition_of file) t text
 Owes (run flags asked name) (file ∷ []) given last ls text = OwesNamed (not flags.plain) asked file given last ls text
-Owes (pre name) (file ∷ []) given last ls text = (cs : List (ChooseTree × Branch)) × AreBranched file cs × ArePres cs text
+Owes (pre name) (file ∷ []) given last ls text = (cs : List (ChooseTree × Branch)) × AreBranched file cs × ArePres (edition_of file) cs text
 Owes (check strictness name) (file ∷ []) given last ls text = (a : Answered) × AreSourceChecks name file text a
 Owes (exec asked name) (file ∷ []) given last ls text =
     (t : RawTarget) × IsTypedTarget file (target_tree t) × AreReplies (record { by = by_target t; form = form_of asked [] }) ls text

@@ -1,5 +1,5 @@
 //! Laws of a workload, and of commands that agree.
-ghost use Rattle.cf_answer.specs.Agreeing.{CompiledIsRun, NeedsAreChecked, ProvedIsVerified};
+ghost use Rattle.cf_answer.specs.Agreeing.{CompiledIsRun, NeedsAreChecked, PreconditionsAreChecked, ProvedIsVerified};
 ghost use Rattle.cf_answer.specs.Workloads.{GenIsAccepted, SumsAreOfQuotients};
 
 /// The source of a workload is accepted: it spells a program in which no rule is broken, and no choose of
@@ -29,4 +29,9 @@ pub fn compiled_is_run()
 /// everywhere where it finds that outputs always exist, and nowhere at a sample at which it finds none.
 pub fn needs_are_checked()
     ensures { NeedsAreChecked }
+{}
+
+/// The same of the relations that `pre` writes in edition 3.
+pub fn preconditions_are_checked()
+    ensures { PreconditionsAreChecked }
 {}

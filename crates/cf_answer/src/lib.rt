@@ -57,7 +57,8 @@ pub use fault::{Fault, StepsFault};
 pub use generate::write_workload;
 pub use goals::write_goals;
 pub use laws::{
-    compiled_is_run, gen_is_accepted, needs_are_checked, proved_is_verified, sums_are_of_quotients,
+    compiled_is_run, gen_is_accepted, needs_are_checked, preconditions_are_checked,
+    proved_is_verified, sums_are_of_quotients,
 };
 pub use limits::{TEXT_LIMIT, WRITTEN_LIMIT, longest_text, longest_written};
 pub use pre::write_preconditions;

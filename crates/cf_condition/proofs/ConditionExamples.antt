@@ -3,9 +3,9 @@ use Rattle.std.proofs.Common.{◌≡◌, ℕ, pos, true, false, [], ◌∷◌, L
 use Rattle.std.specs.Prelude.{negsuc}
 use Rattle.cf_tree.specs.declared.base.Base.TheVariants.{Int, Bool as Truth, Set}
 use Rattle.cf_tree.specs.declared.base.Order.TheVariants.{Eq, Ne, Ge}
-use Rattle.cf_tree.specs.CodeTree.{CodeTree, code_lit, code_truth, code_var, code_set_of, code_tuple, code_sum, code_sub, code_mul, code_neg, code_div, code_mod, code_min, code_compare, code_divides, code_and, code_or, code_not, code_union, code_inter, code_diff, code_subset, code_card, codes_of, ItemTree, let_item, need_item, items_of, ArmTree, arm_of, no_codes, arms_of}
-use Rattle.cf_tree.specs.RelTree.{empty_set, set_var, union_of, inter_of, diff_of, TermTree, term_lit, term_var, term_card, term_neg, term_add, term_sub, term_mul, term_div, term_mod, rel_true, rel_false, rel_compare, rel_same_set, rel_other_set, rel_subset, rel_divides, rel_and, rel_or, rel_not}
-use Rattle.cf_condition.specs.Conditions.{condition_of}
+use Rattle.cf_tree.specs.CodeTree.{CodeTree, code_lit, code_truth, code_var, code_set_of, code_sum, code_sub, code_mul, code_neg, code_div, code_mod, code_min, code_compare, code_divides, code_and, code_or, code_not, code_union, code_inter, code_diff, code_subset, code_card, codes_of, ItemTree, let_item, need_item, items_of, ArmTree, arm_of, no_codes, arms_of}
+use Rattle.cf_tree.specs.RelTree.{empty_set, set_var, union_of, diff_of, RelTree, term_lit, term_var, term_card, term_neg, term_add, term_sub, term_mul, term_div, term_mod, rel_true, rel_false, rel_compare, rel_same_set, rel_other_set, rel_subset, rel_divides, rel_and, rel_or, rel_not}
+use Rattle.cf_condition.specs.Conditions.{condition_of, most_tuples}
 use Rattle.cf_condition.specs.Forms.{FormTree, number_form, set_form, truth_form, unwritten, form_in, scope_forms}
 
 -- variables: a number, a set, and a truth value
@@ -61,26 +61,91 @@ at_least y = code_compare Ge (code_var y) (code_lit (pos 0))
 -- a let stands where its variable does
 let_put_in : condition_of (Int ∷ []) (arms_of (arm [] (let_item (code_div x (pos 60)) ∷ need_item (at_least 1) ∷ []) ∷ [])) ≡
     Some (rel_compare Ge (term_div (term_var 0) (pos 60)) (term_lit (pos 0)))
+unfolding most_tuples
 let_put_in = refl
 
 needs_and_arms : condition_of (Int ∷ Int ∷ [])
     (arms_of (arm [] (need_item (at_least 0) ∷ need_item (at_least 1) ∷ []) ∷ arm [] (need_item (code_divides (pos 2) x) ∷ []) ∷ [])) ≡
     Some (rel_or (rel_and (rel_compare Ge (term_var 0) (term_lit (pos 0))) (rel_compare Ge (term_var 1) (term_lit (pos 0)))) (rel_divides (pos 2) (term_var 0)))
+unfolding most_tuples
 needs_and_arms = refl
 
 no_arm : condition_of (Int ∷ []) (arms_of []) ≡ Some rel_false
+unfolding most_tuples
 no_arm = refl
 
 no_need : condition_of (Int ∷ []) (arms_of (arm [] [] ∷ [])) ≡ Some rel_true
+unfolding most_tuples
 no_need = refl
 
--- an arm that searches, and a let without a form
-searching : condition_of (Int ∷ []) (arms_of (arm (3 ∷ []) (need_item (at_least 0) ∷ []) ∷ [])) ≡ None
-searching = refl
-
+-- a let without a form
 without_form : condition_of (Int ∷ []) (arms_of (arm [] (let_item (code_min (codes_of (x ∷ []))) ∷ need_item (at_least 0) ∷ []) ∷ [])) ≡ None
+unfolding most_tuples
 without_form = refl
 
--- also where another arm has a condition
-searching_among_others : condition_of (Int ∷ []) (arms_of (arm [] [] ∷ arm (3 ∷ []) [] ∷ [])) ≡ None
-searching_among_others = refl
+-- ---- searches
+abbrev is_number : ℕ → CodeTree
+is_number y = code_compare Eq x (code_var y)
+
+abbrev is_literal : ℕ → RelTree
+is_literal k = rel_compare Eq (term_var 0) (term_lit (pos k))
+
+-- each search value in its order
+one_search : condition_of (Int ∷ []) (arms_of (arm (3 ∷ []) (need_item (is_number 1) ∷ []) ∷ [])) ≡
+    Some (rel_or (rel_or (is_literal 0) (is_literal 1)) (is_literal 2))
+unfolding most_tuples
+one_search = refl
+
+-- each tuple in lexicographic order
+abbrev is_difference : ℕ → ℕ → RelTree
+is_difference j k = rel_compare Eq (term_var 0) (term_sub (term_lit (pos j)) (term_lit (pos k)))
+
+two_searches : condition_of (Int ∷ [])
+    (arms_of (arm (2 ∷ 3 ∷ []) (let_item (code_sub (code_var 1) (code_var 2)) ∷ need_item (is_number 3) ∷ []) ∷ [])) ≡
+    Some (rel_or (rel_or (rel_or (rel_or (rel_or (is_difference 0 0) (is_difference 0 1)) (is_difference 0 2)) (is_difference 1 0)) (is_difference 1 1))
+    (is_difference 1 2))
+unfolding most_tuples
+two_searches = refl
+
+-- behind the arms before, and before those behind
+abbrev without_search : ArmTree
+without_search = arm [] (need_item (at_least 0) ∷ [])
+
+abbrev with_search : ArmTree
+with_search = arm (2 ∷ []) (need_item (is_number 1) ∷ [])
+
+search_behind : condition_of (Int ∷ []) (arms_of (without_search ∷ with_search ∷ [])) ≡
+    Some (rel_or (rel_or (rel_compare Ge (term_var 0) (term_lit (pos 0))) (is_literal 0)) (is_literal 1))
+unfolding most_tuples
+search_behind = refl
+
+search_before : condition_of (Int ∷ []) (arms_of (with_search ∷ without_search ∷ [])) ≡
+    Some (rel_or (rel_or (is_literal 0) (is_literal 1)) (rel_compare Ge (term_var 0) (term_lit (pos 0))))
+unfolding most_tuples
+search_before = refl
+
+-- below 0 there is no tuple
+no_tuple : condition_of (Int ∷ []) (arms_of (arm (0 ∷ []) [] ∷ [])) ≡ Some rel_false
+unfolding most_tuples
+no_tuple = refl
+
+-- 1000 tuples together are written, and no more; an arm without searches has one
+abbrev never : List ℕ → ArmTree
+never bounds = arm bounds (need_item (code_truth false) ∷ [])
+
+most_are_written : condition_of (Int ∷ []) (arms_of (never (37 ∷ 27 ∷ []) ∷ never [] ∷ [])) ≡ Some rel_false
+unfolding most_tuples
+most_are_written = refl
+
+one_too_many : condition_of (Int ∷ []) (arms_of (never (7 ∷ 11 ∷ 13 ∷ []) ∷ [])) ≡ None
+unfolding most_tuples
+one_too_many = refl
+
+together_too_many : condition_of (Int ∷ []) (arms_of (never (37 ∷ 27 ∷ []) ∷ never [] ∷ never [] ∷ [])) ≡ None
+unfolding most_tuples
+together_too_many = refl
+
+-- more than 64 bits hold
+far_too_many : condition_of (Int ∷ []) (arms_of (never (4294967295 ∷ 4294967295 ∷ 4294967295 ∷ []) ∷ [])) ≡ None
+unfolding most_tuples
+far_too_many = refl

@@ -1,5 +1,6 @@
 pub mod Deciding
 pub mod FormLaws
+pub mod TupleCounts
 pub mod WalkLaws
 pub mod TypedLaws
 pub mod LinearLaws

@@ -1,23 +1,24 @@
 -- What is written is linear.
 use Rattle.std.proofs.Common.{◌≡◌, ℕ, zero, suc, ℤ, Bool, true, false, List, [], ◌∷◌, ◌++◌, Option, Some, None, refl, sym, subst}
-use Rattle.std.specs.Prelude.{int_le, pos, ◌||◌, IsTrue, if◌then◌else◌}
+use Rattle.std.specs.Prelude.{int_le, pos, ◌||◌, if◌then◌else◌}
 use Rattle.cf_tree.specs.declared.base.Base.{Base}
 use Rattle.cf_tree.specs.declared.base.Base.TheVariants.{Int, Bool as Truth, Set}
 use Rattle.cf_tree.specs.declared.base.Order.{Order}
 use Rattle.cf_tree.specs.declared.base.Order.TheVariants.{Eq, Ne, Lt, Le, Gt, Ge}
 use Rattle.cf_tree.specs.CodeTree.{CodeTree, code_lit, code_truth, code_var, code_set_of, code_tuple, code_sum, code_sub, code_mul, code_neg, code_div, code_mod, code_min, code_max, code_compare, code_divides, code_and, code_or, code_not, code_union, code_inter, code_diff, code_subset, code_card, code_slice, code_fresh, code_if, code_let, code_solve, CodeTrees, no_codes, code_more, let_item, need_item, ItemTrees, no_items, item_more, ArmTree, arm_of, ArmTrees, no_arms, arm_more}
+use Rattle.cf_tree.specs.Meaning.{tuple_at}
 use Rattle.cf_tree.specs.Relation.{is_fixed, IsLinearTerm, IsLinear}
 use Rattle.cf_tree.specs.RelTree.{SetTree, TermTree, term_lit, term_var, term_card, term_neg, term_add, term_sub, term_mul, term_div, term_mod, term_abs, RelTree, rel_true, rel_false, rel_and, rel_or, rel_divides}
 use Rattle.cf_condition.specs.declared.pairing.Pairing.{Pairing}
 use Rattle.cf_condition.specs.declared.pairing.Pairing.TheVariants.{Add, Sub, Mul, Union, Inter, Diff, Subset, And, Or, Compare}
-use Rattle.cf_condition.specs.Conditions.{IsCondition, ConditionAnswer, condition_of, Walk, bound, needed, items_in, arm_in, arms_in, all_in, written}
+use Rattle.cf_condition.specs.Conditions.{IsCondition, ConditionAnswer, condition_of, Walk, bound, needed, items_in, literals, tuple_in, tuples_in, arm_count, arm_in, arms_in, all_in, written}
 use Rattle.cf_tree.specs.declared.rel.Rel.{Rel}
 use Rattle.cf_tree.specs.RelView.{rel_tree}
 use Rattle.cf_condition.specs.FormView.{rel_option}
 use Rattle.cf_condition.specs.ConditionLaws.{WrittenIsCondition}
-use Rattle.cf_condition.specs.Forms.{FormTree, number_form, set_form, truth_form, unwritten, negated, counted, opposite, divided, left_by, multiple, if_set, is_literal, product, compared_sets, is_true, is_false, both, either, paired, form_at, set_of, truth_rel, form_in, joined_in, first_in, form_for, scope_forms}
+use Rattle.cf_condition.specs.Forms.{FormTree, number_form, set_form, truth_form, unwritten, negated, counted, opposite, divided, left_by, multiple, if_set, is_literal, product, compared_sets, is_true, is_false, both, either, paired, form_at, form_in, joined_in, scope_forms}
 use Rattle.cf_condition.proofs.TypedLaws.{IsTypedForm, typed_arms}
-use Rattle.cf_condition.proofs.WalkLaws.{condition_holds}
+use Rattle.cf_condition.proofs.WalkLaws.{IsFew, is_few, arms_hold}
 
 abbrev IsLinearForm : FormTree → Type 0
 IsLinearForm (number_form t) = IsLinearTerm t
@@ -221,7 +222,7 @@ mutual
   linear_joined p fs f (code_more c cs) h j =
       linear_joined p fs (paired p f (form_in fs c)) cs h (linear_paired p f (form_in fs c) j (linear_form fs c h))
 
--- ---- items and arms
+-- ---- items
 linear_more : (fs : List FormTree) (f : FormTree) → AreLinear fs → IsLinearForm f → AreLinear (fs ++ (f ∷ []))
 linear_more [] f h j = (j, tt)
 linear_more (g ∷ fs) f h j = (h.0, linear_more fs f h.1 j)
@@ -245,14 +246,27 @@ linear_scope x (Int ∷ bs) = (tt, linear_scope (suc x) bs)
 linear_scope x (Truth ∷ bs) = (tt, linear_scope (suc x) bs)
 linear_scope x (Set ∷ bs) = (tt, linear_scope (suc x) bs)
 
-linear_arm : (scope : List Base) (a : ArmTree) → IsLinearForm (arm_in scope a)
-linear_arm scope (arm_of [] is gs) = linear_items is (record { forms = scope_forms 0 scope; needs = truth_form rel_true }) (linear_scope 0 scope) tt
-linear_arm scope (arm_of (b ∷ bounds) is gs) = tt
+-- ---- tuples and arms
+linear_literals : (ks : List ℕ) → AreLinear (literals ks)
+linear_literals [] = tt
+linear_literals (k ∷ ks) = (tt, linear_literals ks)
+
+linear_behind : (fs gs : List FormTree) → AreLinear fs → AreLinear gs → AreLinear (fs ++ gs)
+linear_behind [] gs h j = j
+linear_behind (f ∷ fs) gs h j = (h.0, linear_behind fs gs h.1 j)
+
+linear_tuple : (scope : List Base) (a : ArmTree) (i : ℕ) → IsLinearForm (tuple_in scope a i)
+linear_tuple scope (arm_of bounds is gs) i =
+    linear_items is (record { forms = scope_forms 0 scope ++ literals (tuple_at bounds i); needs = truth_form rel_true })
+    (linear_behind (scope_forms 0 scope) (literals (tuple_at bounds i)) (linear_scope 0 scope) (linear_literals (tuple_at bounds i))) tt
+
+linear_tuples : (scope : List Base) (f : FormTree) (a : ArmTree) (n : ℕ) → IsLinearForm f → IsLinearForm (tuples_in scope f a n)
+linear_tuples scope f a zero h = h
+linear_tuples scope f a (suc n) h = linear_paired Or (tuples_in scope f a n) (tuple_in scope a n) (linear_tuples scope f a n h) (linear_tuple scope a n)
 
 linear_arms : (scope : List Base) (f : FormTree) (arms : ArmTrees) → IsLinearForm f → IsLinearForm (arms_in scope f arms)
 linear_arms scope f no_arms h = h
-linear_arms scope f (arm_more a arms) h =
-    linear_arms scope (paired Or f (arm_in scope a)) arms (linear_paired Or f (arm_in scope a) h (linear_arm scope a))
+linear_arms scope f (arm_more a arms) h = linear_arms scope (arm_in scope f a) arms (linear_tuples scope f a (arm_count a) h)
 
 is_truth : (f : FormTree) (r : RelTree) → written f ≡ Some r → f ≡ truth_form r
 is_truth (number_form t) r e = absurd (cc)
@@ -261,12 +275,13 @@ is_truth (truth_form q) r e = cc
 is_truth unwritten r e = absurd (cc)
 
 pub written_is_condition : WrittenIsCondition
-written_is_condition scope arms r e =
-    let q = is_truth (all_in scope arms) r e in
-    record {
-      holds = condition_holds scope arms r q;
-      linear = subst IsLinearForm q (linear_arms scope (truth_form rel_false) arms tt);
-      typed = λ s. subst (IsTypedForm scope) q (typed_arms scope (truth_form rel_false) arms tt s);
+written_is_condition scope arms r e = by (is_few scope arms r (is_truth (all_in scope arms) r e))
+  where
+    by : IsFew scope arms r → IsCondition scope arms r
+    by w = record {
+      holds = arms_hold scope arms r w.is;
+      linear = subst IsLinearForm w.is (linear_arms scope (truth_form rel_false) arms tt);
+      typed = λ s. subst (IsTypedForm scope) w.is (typed_arms scope (truth_form rel_false) arms w.few tt s);
     }
 
 pub answer_is : (scope : List Base) (arms : ArmTrees) (answer : Option Rel) → rel_option answer ≡ condition_of scope arms → ConditionAnswer scope arms answer

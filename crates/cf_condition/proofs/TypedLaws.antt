@@ -1,19 +1,21 @@
 -- What is written speaks of variables by their bases, and of numbers within the limit.
 use Rattle.std.proofs.Common.{◌≡◌, ℕ, zero, suc, ◌+◌, ℤ, Bool, true, false, List, [], ◌∷◌, ◌++◌, Some, refl, subst, arith}
-use Rattle.std.specs.Prelude.{int_le, pos, ◌||◌, slice_get, if◌then◌else◌}
+use Rattle.std.specs.Prelude.{int_le, pos, ◌||◌, ◌/◌, ◌%◌, ◌≤◌, slice_get, if◌then◌else◌}
+use Rattle.std.proofs.Math.Nat.{div-le_self, mod-le}
 use Rattle.cf_num.specs.Limit.{IsWithin}
 use Rattle.cf_tree.specs.declared.base.Base.{Base}
 use Rattle.cf_tree.specs.declared.base.Base.TheVariants.{Int, Bool as Truth, Set}
 use Rattle.cf_tree.specs.declared.base.Order.{Order}
 use Rattle.cf_tree.specs.declared.base.Order.TheVariants.{Eq, Ne, Lt, Le, Gt, Ge}
 use Rattle.cf_tree.specs.CodeTree.{CodeTree, code_lit, code_truth, code_var, code_set_of, code_tuple, code_sum, code_sub, code_mul, code_neg, code_div, code_mod, code_min, code_max, code_compare, code_divides, code_and, code_or, code_not, code_union, code_inter, code_diff, code_subset, code_card, code_slice, code_fresh, code_if, code_let, code_solve, CodeTrees, no_codes, code_more, let_item, need_item, ItemTrees, no_items, item_more, ArmTree, arm_of, ArmTrees, no_arms, arm_more}
+use Rattle.cf_tree.specs.Meaning.{count_below, tuple_at}
 use Rattle.cf_tree.specs.Relation.{IsDivisor, IsTypedSet, IsTypedTerm, IsTyped}
 use Rattle.cf_tree.specs.RelTree.{SetTree, TermTree, term_lit, term_mul, term_div, term_mod, RelTree, rel_true, rel_and, rel_or, rel_divides}
 use Rattle.cf_tree.specs.Spelled.{IsSpelled, AreSpelled, AreItemsSpelled}
 use Rattle.cf_condition.specs.declared.pairing.Pairing.{Pairing}
 use Rattle.cf_condition.specs.declared.pairing.Pairing.TheVariants.{Add, Sub, Mul, Union, Inter, Diff, Subset, And, Or, Compare}
-use Rattle.cf_condition.specs.Conditions.{AreNeedsSpelled, Walk, bound, needed, items_in, arm_in, arms_in, all_in}
-use Rattle.cf_condition.specs.Forms.{FormTree, number_form, set_form, truth_form, unwritten, negated, counted, opposite, divided, left_by, multiple, if_set, is_literal, product, compared_sets, is_true, is_false, both, either, paired, form_at, form_in, joined_in, form_for, scope_forms}
+use Rattle.cf_condition.specs.Conditions.{AreNeedsSpelled, Walk, bound, needed, items_in, literals, tuple_in, tuples_in, tuple_count, arm_in, arms_in, most_tuples}
+use Rattle.cf_condition.specs.Forms.{FormTree, number_form, set_form, truth_form, unwritten, negated, counted, opposite, divided, left_by, multiple, if_set, is_literal, compared_sets, is_true, is_false, both, either, paired, form_at, form_in, joined_in, form_for, scope_forms}
 
 abbrev pub IsTypedForm : List Base → FormTree → Type 0
 IsTypedForm scope (number_form t) = IsTypedTerm scope t
@@ -200,7 +202,7 @@ mutual
   typed_joined sc p fs f (code_more c cs) h j s =
       typed_joined sc p fs (paired p f (form_in fs c)) cs h (typed_paired sc p f (form_in fs c) j (typed_form sc fs c h s.0)) s.1
 
--- ---- items and arms
+-- ---- items
 typed_more : (sc : List Base) (fs : List FormTree) (f : FormTree) → AreTyped sc fs → IsTypedForm sc f → AreTyped sc (fs ++ (f ∷ []))
 typed_more sc [] f h j = (j, tt)
 typed_more sc (g ∷ fs) f h j = (h.0, typed_more sc fs f h.1 j)
@@ -240,12 +242,52 @@ typed_scope sc x (b ∷ bs) same = (
 from_zero : (sc : List Base) (i : ℕ) → slice_get sc (0 + i) ≡ slice_get sc i
 from_zero sc i = let e : 0 + i ≡ i = omega arith in rw e refl
 
-typed_arm : (sc : List Base) (bounds : List ℕ) (is : ItemTrees) (gs : CodeTrees) → AreItemsSpelled is → IsTypedForm sc (arm_in sc (arm_of bounds is gs))
-typed_arm sc [] is gs s =
-    typed_items sc is (record { forms = scope_forms 0 sc; needs = truth_form rel_true }) (typed_scope sc 0 sc (from_zero sc)) tt s
-typed_arm sc (b ∷ bounds) is gs s = tt
+-- ---- tuples
+few_within : (k : ℕ) → k ≤ most_tuples → IsWithin (pos k)
+unfolding most_tuples
+few_within k l = omega arith
 
-pub typed_arms : (sc : List Base) (f : FormTree) (arms : ArmTrees) → IsTypedForm sc f → AreNeedsSpelled arms → IsTypedForm sc (arms_in sc f arms)
-typed_arms sc f no_arms h s = h
-typed_arms sc f (arm_more (arm_of bounds is gs) arms) h s =
-    typed_arms sc (paired Or f (arm_in sc (arm_of bounds is gs))) arms (typed_paired sc Or f (arm_in sc (arm_of bounds is gs)) h (typed_arm sc bounds is gs s.0)) s.1
+no_more : (a b c : ℕ) → a ≤ b → b ≤ c → a ≤ c
+no_more a b c l h = omega arith
+
+one_less : (n m : ℕ) → suc n ≤ m → n ≤ m
+one_less n m l = omega arith
+
+-- each value of a tuple is at most its number
+typed_literals : (sc : List Base) (bounds : List ℕ) (i : ℕ) → i ≤ most_tuples → AreTyped sc (literals (tuple_at bounds i))
+typed_literals sc [] i l = tt
+typed_literals sc (b ∷ bs) i l = (
+  few_within (i / count_below bs) (no_more (i / count_below bs) i most_tuples (div-le_self i (count_below bs)) l),
+  typed_literals sc bs (i % count_below bs) (no_more (i % count_below bs) i most_tuples (mod-le i (count_below bs)) l),
+)
+
+typed_behind : (sc : List Base) (fs gs : List FormTree) → AreTyped sc fs → AreTyped sc gs → AreTyped sc (fs ++ gs)
+typed_behind sc [] gs h j = j
+typed_behind sc (f ∷ fs) gs h j = (h.0, typed_behind sc fs gs h.1 j)
+
+abbrev IsArmSpelled : ArmTree → Type 0
+IsArmSpelled (arm_of bounds is gs) = AreItemsSpelled is
+
+typed_tuple : (sc : List Base) (a : ArmTree) (i : ℕ) → i ≤ most_tuples → IsArmSpelled a → IsTypedForm sc (tuple_in sc a i)
+typed_tuple sc (arm_of bounds is gs) i l s =
+    typed_items sc is (record { forms = scope_forms 0 sc ++ literals (tuple_at bounds i); needs = truth_form rel_true })
+    (typed_behind sc (scope_forms 0 sc) (literals (tuple_at bounds i)) (typed_scope sc 0 sc (from_zero sc)) (typed_literals sc bounds i l)) tt s
+
+typed_tuples : (sc : List Base) (f : FormTree) (a : ArmTree) (n : ℕ) → n ≤ most_tuples → IsTypedForm sc f → IsArmSpelled a → IsTypedForm sc (tuples_in sc f a n)
+typed_tuples sc f a zero l h s = h
+typed_tuples sc f a (suc n) l h s =
+    let m = one_less n most_tuples l in
+    typed_paired sc Or (tuples_in sc f a n) (tuple_in sc a n) (typed_tuples sc f a n m h s) (typed_tuple sc a n m s)
+
+first_few : (a b m : ℕ) → a + b ≤ m → a ≤ m
+first_few a b m l = omega arith
+
+others_few : (a b m : ℕ) → a + b ≤ m → b ≤ m
+others_few a b m l = omega arith
+
+pub typed_arms : (sc : List Base) (f : FormTree) (arms : ArmTrees) → tuple_count arms ≤ most_tuples → IsTypedForm sc f → AreNeedsSpelled arms →
+    IsTypedForm sc (arms_in sc f arms)
+typed_arms sc f no_arms l h s = h
+typed_arms sc f (arm_more (arm_of bounds is gs) arms) l h s =
+    typed_arms sc (arm_in sc f (arm_of bounds is gs)) arms (others_few (count_below bounds) (tuple_count arms) most_tuples l)
+    (typed_tuples sc f (arm_of bounds is gs) (count_below bounds) (first_few (count_below bounds) (tuple_count arms) most_tuples l) h s.0) s.1

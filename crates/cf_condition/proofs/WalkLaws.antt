@@ -1,20 +1,23 @@
 -- What is written of arms is their condition.
-use Rattle.std.proofs.Common.{◌≡◌, ◌⊎◌, ℕ, zero, suc, Bool, true, false, List, [], ◌∷◌, ◌++◌, Some, None, map, refl, subst, sym, inl, inr, ◌∙◌, ◌+◌, append-nil, arith}
-use Rattle.std.specs.Prelude.{◌↔◌, ℤ, if◌then◌else◌}
+use Rattle.std.proofs.Common.{◌≡◌, ◌⊎◌, ℕ, zero, suc, Bool, true, false, List, [], ◌∷◌, ◌++◌, Some, None, map, refl, subst, sym, inl, inr, ◌∙◌, ◌+◌, arith}
+use Rattle.std.specs.Prelude.{◌↔◌, ℤ, pos, ◌<◌, ◌≤◌, nat_lt, if◌then◌else◌}
+use Rattle.std.proofs.lemmas.Bool.{cases_lt}
 use Rattle.cf_tree.specs.declared.base.Base.{Base}
 use Rattle.cf_tree.specs.declared.base.Base.TheVariants.{Int, Bool as Truth, Set}
-use Rattle.cf_tree.specs.CodeTree.{CodeTree, ItemTree, let_item, need_item, ItemTrees, no_items, item_more, ArmTree, arm_of, ArmTrees, no_arms, arm_more}
-use Rattle.cf_tree.specs.Meaning.{Got, got, path, then_gives, item_path, items_path}
+use Rattle.cf_tree.specs.CodeTree.{CodeTree, let_item, need_item, ItemTrees, no_items, item_more, ArmTree, arm_of, ArmTrees, no_arms, arm_more}
+use Rattle.cf_tree.specs.Meaning.{got, path, items_path, tuple_at}
 use Rattle.cf_tree.specs.Relation.{val, members, Holds}
-use Rattle.cf_tree.specs.RelTree.{TermTree, SetTree, RelTree, rel_true, rel_false}
-use Rattle.cf_tree.specs.Solving.{IsBelow, with_tuple, NeedsHold, HoldSomewhere}
+use Rattle.cf_tree.specs.RelTree.{RelTree, rel_true, rel_false}
+use Rattle.cf_tree.specs.Solving.{with_tuple, NeedsHold, HoldSomewhere}
 use Rattle.cf_tree.specs.Values.{Value, number, truth, elements, number_of, elements_of, value_at, HasBase, HaveBases}
 use Rattle.cf_tree.specs.Sets.{IsRising}
+use Rattle.cf_tree.proofs.TupleLemmas.{tuples_numbered}
 use Rattle.cf_condition.specs.declared.pairing.Pairing.TheVariants.{And, Or}
-use Rattle.cf_condition.specs.Conditions.{Walk, bound, needed, step_in, items_in, arm_in, arms_in, all_in}
+use Rattle.cf_condition.specs.Conditions.{Walk, bound, needed, items_in, needs_in, literals, tuple_in, tuples_in, arm_count, tuple_count, arm_in, arms_in, most_tuples, all_in}
 use Rattle.cf_condition.specs.Forms.{FormTree, number_form, set_form, truth_form, unwritten, both, either, paired, form_in, form_for, scope_forms}
 use Rattle.cf_condition.specs.Standing.{Decides, Stands, AllStand, GivesForm}
 use Rattle.cf_condition.proofs.FormLaws.{forms_are_right, both_hold, either_holds}
+use Rattle.cf_condition.proofs.TupleCounts.{few}
 
 -- the items lead to some environment
 abbrev ItemsHold : ItemTrees → List Value → Type 0
@@ -171,72 +174,169 @@ scope_stand (b ∷ bs) x env (v ∷ vs) same h = (
   scope_stand bs (suc x) env vs (λ i. subst (λ y. value_at env y ≡ value_at vs i) (one_more x i) (same (suc i))) h.1,
 )
 
+-- ---- tuples
+literals_stand : (ks : List ℕ) (env : List Value) → AllStand (literals ks) env (map (λ k. number (pos k)) ks)
+literals_stand [] env = tt
+literals_stand (k ∷ ks) env = (refl, literals_stand ks env)
+
+stand_behind : (fs gs : List FormTree) (env vs ws : List Value) → AllStand fs env vs → AllStand gs env ws → AllStand (fs ++ gs) env (vs ++ ws)
+stand_behind [] gs env [] ws h j = j
+stand_behind [] gs env (v ∷ vs) ws h j = absurd h
+stand_behind (f ∷ fs) gs env [] ws h j = absurd h
+stand_behind (f ∷ fs) gs env (v ∷ vs) ws h j = (h.0, stand_behind fs gs env vs ws h.1 j)
+
+needs_hold : (fs : List FormTree) (is : ItemTrees) (env e : List Value) (r : RelTree) → AllStand fs env e → needs_in fs is ≡ truth_form r →
+    Holds r env ↔ ItemsHold is e
+needs_hold fs is env e r h q = by (walk_leads is (record { forms = fs; needs = truth_form rel_true }) env e r h q)
+  where
+    by : Leads is (record { forms = fs; needs = truth_form rel_true }) env e r → Holds r env ↔ ItemsHold is e
+    by l = (λ p. (l.holds.0 p).1, λ i. l.holds.1 (subst (λ k. Holds k env) (one_truth rel_true l.so_far l.needs_are) tt, i))
+
+-- the needs of an arm hold at the tuple of that number
+abbrev HoldAt : ArmTree → List Value → ℕ → Type 0
+HoldAt (arm_of bounds is gs) env i = ItemsHold is (with_tuple env (tuple_at bounds i))
+
+tuple_holds : (scope : List Base) (a : ArmTree) (i : ℕ) (env : List Value) (r : RelTree) → HaveBases scope env → tuple_in scope a i ≡ truth_form r →
+    Holds r env ↔ HoldAt a env i
+tuple_holds scope (arm_of bounds is gs) i env r h q =
+    let ks = tuple_at bounds i in
+    needs_hold (scope_forms 0 scope ++ literals ks) is env (with_tuple env ks) r
+    (stand_behind (scope_forms 0 scope) (literals ks) env env (map (λ k. number (pos k)) ks) (scope_stand scope 0 env env (from_zero env) h)
+    (literals_stand ks env)) q
+
+-- the condition of what stands before, or of what is told
+record Written (f : FormTree) (env : List Value) (r : RelTree) (P : Type 0) : Type 0 where
+  so_far : RelTree
+  is : f ≡ truth_form so_far
+  holds : Holds r env ↔ (Holds so_far env ⊎ P)
+
+-- the needs of an arm hold at one of the first n tuples
+abbrev HoldBelow : ArmTree → List Value → ℕ → Type 0
+HoldBelow a env n = (i : ℕ) × (i < n) × HoldAt a env i
+
+none_below : (a : ArmTree) (env : List Value) → HoldBelow a env 0 → ⊥
+none_below a env s = let l = s.1 in omega arith
+
+one_more_below : (a : ArmTree) (env : List Value) (n : ℕ) → HoldBelow a env n → HoldBelow a env (suc n)
+one_more_below a env n s = let l = s.1 in (s.0, omega arith, s.2)
+
+last_below : (a : ArmTree) (env : List Value) (n : ℕ) → HoldAt a env n → HoldBelow a env (suc n)
+last_below a env n h = (n, omega arith, h)
+
+below_or_last : (a : ArmTree) (env : List Value) (n : ℕ) → HoldBelow a env (suc n) → HoldBelow a env n ⊎ HoldAt a env n
+below_or_last a env n s =
+    elim (cases_lt s.0 n) as (λ _. HoldBelow a env n ⊎ HoldAt a env n) [
+      | inl l ↦ inl (s.0, l, s.2)
+      | inr g ↦ let l = s.1 in let e : s.0 ≡ n = omega arith in inr (subst (λ i. HoldAt a env i) e s.2)
+    ]
+
+one_tuple_more : (scope : List Base) (f : FormTree) (a : ArmTree) (n : ℕ) (env : List Value) (r : RelTree) → HaveBases scope env →
+    ((s : RelTree) → tuples_in scope f a n ≡ truth_form s → Written f env s (HoldBelow a env n)) →
+    OfTruths (tuples_in scope f a n) (tuple_in scope a n) r either → Written f env r (HoldBelow a env (suc n))
+one_tuple_more scope f a n env r h before o = by (before o.left o.left_is)
+  where
+    by : Written f env o.left (HoldBelow a env n) → Written f env r (HoldBelow a env (suc n))
+    by w =
+        let one = tuple_holds scope a n env o.right h o.right_is in
+        let split = either_holds o.left o.right env in
+        record {
+          so_far = w.so_far;
+          is = w.is;
+          holds = (
+            λ p. elim (split.0 (subst (λ k. Holds k env) o.joined p)) [
+              | inl x ↦ elim (w.holds.0 x) [ inl y ↦ inl y | inr y ↦ inr (one_more_below a env n y) ]
+              | inr x ↦ inr (last_below a env n (one.0 x))
+            ],
+            λ p. subst (λ k. Holds k env) (sym o.joined) (split.1 (elim p [
+              | inl x ↦ inl (w.holds.1 (inl x))
+              | inr x ↦ elim (below_or_last a env n x) [ inl y ↦ inl (w.holds.1 (inr y)) | inr y ↦ inr (one.1 y) ]
+            ])),
+          );
+        }
+
+tuples_written : (scope : List Base) (f : FormTree) (a : ArmTree) (n : ℕ) (env : List Value) (r : RelTree) → HaveBases scope env →
+    tuples_in scope f a n ≡ truth_form r → Written f env r (HoldBelow a env n)
+tuples_written scope f a zero env r h q =
+    record { so_far = r; is = q; holds = (λ x. inl x, λ p. elim p [ inl x ↦ x | inr x ↦ absurd (none_below a env x) ]) }
+tuples_written scope f a (suc n) env r h q =
+    one_tuple_more scope f a n env r h (λ s e. tuples_written scope f a n env s h e) (of_or (tuples_in scope f a n) (tuple_in scope a n) r q)
+
 -- ---- arms
 abbrev Somewhere : ArmTree → List Value → Type 0
 Somewhere a env = (ks : List ℕ) × (e : List Value) × NeedsHold a env ks e
 
-arm_holds : (scope : List Base) (a : ArmTree) (env : List Value) (r : RelTree) → HaveBases scope env → arm_in scope a ≡ truth_form r →
-    Holds r env ↔ Somewhere a env
-arm_holds scope (arm_of (b ∷ bounds) is gs) env r h q = absurd (no_truth r q)
-arm_holds scope (arm_of [] is gs) env r h q =
-    by (walk_leads is (record { forms = scope_forms 0 scope; needs = truth_form rel_true }) env env r (scope_stand scope 0 env env (from_zero env) h) q)
+-- each tuple has a number
+below_somewhere : (a : ArmTree) (env : List Value) → HoldBelow a env (arm_count a) ↔ Somewhere a env
+below_somewhere (arm_of bounds is gs) env = (
+  λ s. (tuple_at bounds s.0, s.2.0, ((tuples_numbered bounds).below s.0 s.1, s.2.1)),
+  λ s.
+      let n = (tuples_numbered bounds).reached s.0 s.2.0 in
+      (n.0, n.1, subst (λ ks. ItemsHold is (with_tuple env ks)) (sym n.2) (s.1, s.2.1)),
+)
+
+arm_written : (scope : List Base) (f : FormTree) (a : ArmTree) (env : List Value) (r : RelTree) → HaveBases scope env → arm_in scope f a ≡ truth_form r →
+    Written f env r (Somewhere a env)
+arm_written scope f a env r h q = by (tuples_written scope f a (arm_count a) env r h q)
   where
-    back : (ks : List ℕ) (e : List Value) → NeedsHold (arm_of [] is gs) env ks e → ItemsHold is env
-    back [] e n = (e, subst (λ x. (items_path is x).gives ≡ got (Some e)) (append-nil env) n.1)
-    back (k ∷ ks) e n = absurd n.0
-
-    by : Leads is (record { forms = scope_forms 0 scope; needs = truth_form rel_true }) env env r → Holds r env ↔ Somewhere (arm_of [] is gs) env
-    by l = (
-      λ p. let i = (l.holds.0 p).1 in
-          ([], i.0, (tt, subst (λ x. (items_path is x).gives ≡ got (Some i.0)) (sym (append-nil env)) i.1)),
-      λ s. l.holds.1 (subst (λ k. Holds k env) (one_truth rel_true l.so_far l.needs_are) tt, back s.0 s.1 s.2),
-    )
-
--- the condition of what stands before, or of these arms
-record Written (scope : List Base) (arms : ArmTrees) (f : FormTree) (env : List Value) (r : RelTree) : Type 0 where
-  so_far : RelTree
-  is : f ≡ truth_form so_far
-  holds : Holds r env ↔ (Holds so_far env ⊎ HoldSomewhere arms env)
-
-one_arm_more : (scope : List Base) (a : ArmTree) (arms : ArmTrees) (f : FormTree) (env : List Value) (r : RelTree) → HaveBases scope env →
-    Written scope arms (paired Or f (arm_in scope a)) env r → Written scope (arm_more a arms) f env r
-one_arm_more scope a arms f env r h w = by (of_or f (arm_in scope a) w.so_far w.is)
-  where
-    by : OfTruths f (arm_in scope a) w.so_far either → Written scope (arm_more a arms) f env r
-    by o =
-        let one = arm_holds scope a env o.right h o.right_is in
-        let split = either_holds o.left o.right env in
+    by : Written f env r (HoldBelow a env (arm_count a)) → Written f env r (Somewhere a env)
+    by w =
+        let all = below_somewhere a env in
         record {
-          so_far = o.left;
-          is = o.left_is;
+          so_far = w.so_far;
+          is = w.is;
           holds = (
-            λ p. elim (w.holds.0 p) [
-              | inl x ↦ elim (split.0 (subst (λ k. Holds k env) o.joined x)) [ inl y ↦ inl y | inr y ↦ inr (inl (one.0 y)) ]
-              | inr x ↦ inr (inr x)
-            ],
-            λ p. elim p [
-              | inl x ↦ w.holds.1 (inl (subst (λ k. Holds k env) (sym o.joined) (split.1 (inl x))))
-              | inr x ↦ elim x [
-                | inl y ↦ w.holds.1 (inl (subst (λ k. Holds k env) (sym o.joined) (split.1 (inr (one.1 y)))))
-                | inr y ↦ w.holds.1 (inr y)
-              ]
-            ],
+            λ p. elim (w.holds.0 p) [ inl x ↦ inl x | inr x ↦ inr (all.0 x) ],
+            λ p. elim p [ inl x ↦ w.holds.1 (inl x) | inr x ↦ w.holds.1 (inr (all.1 x)) ],
           );
         }
 
 arms_written : (scope : List Base) (arms : ArmTrees) (f : FormTree) (env : List Value) (r : RelTree) → HaveBases scope env → arms_in scope f arms ≡ truth_form r →
-    Written scope arms f env r
+    Written f env r (HoldSomewhere arms env)
 arms_written scope no_arms f env r h q =
     record { so_far = r; is = q; holds = (λ x. inl x, λ p. elim p [ inl x ↦ x | inr x ↦ absurd x ]) }
-arms_written scope (arm_more a arms) f env r h q =
-    one_arm_more scope a arms f env r h (arms_written scope arms (paired Or f (arm_in scope a)) env r h q)
-
-pub condition_holds : (scope : List Base) (arms : ArmTrees) (r : RelTree) → all_in scope arms ≡ truth_form r → (env : List Value) → HaveBases scope env →
-    Holds r env ↔ HoldSomewhere arms env
-condition_holds scope arms r q env h = by (arms_written scope arms (truth_form rel_false) env r h q)
+arms_written scope (arm_more a arms) f env r h q = by (arms_written scope arms (arm_in scope f a) env r h q)
   where
-    by : Written scope arms (truth_form rel_false) env r → Holds r env ↔ HoldSomewhere arms env
+    more : (w : Written (arm_in scope f a) env r (HoldSomewhere arms env)) → Written f env w.so_far (Somewhere a env) →
+        Written f env r (HoldSomewhere (arm_more a arms) env)
+    more w v =
+        record {
+          so_far = v.so_far;
+          is = v.is;
+          holds = (
+            λ p. elim (w.holds.0 p) [
+              | inl x ↦ elim (v.holds.0 x) [ inl y ↦ inl y | inr y ↦ inr (inl y) ]
+              | inr x ↦ inr (inr x)
+            ],
+            λ p. elim p [
+              | inl x ↦ w.holds.1 (inl (v.holds.1 (inl x)))
+              | inr x ↦ elim x [ inl y ↦ w.holds.1 (inl (v.holds.1 (inr y))) | inr y ↦ w.holds.1 (inr y) ]
+            ],
+          );
+        }
+
+    by : Written (arm_in scope f a) env r (HoldSomewhere arms env) → Written f env r (HoldSomewhere (arm_more a arms) env)
+    by w = more w (arm_written scope f a env w.so_far h w.is)
+
+pub arms_hold : (scope : List Base) (arms : ArmTrees) (r : RelTree) → arms_in scope (truth_form rel_false) arms ≡ truth_form r → (env : List Value) →
+    HaveBases scope env → Holds r env ↔ HoldSomewhere arms env
+arms_hold scope arms r q env h = by (arms_written scope arms (truth_form rel_false) env r h q)
+  where
+    by : Written (truth_form rel_false) env r (HoldSomewhere arms env) → Holds r env ↔ HoldSomewhere arms env
     by w = (
       λ p. elim (w.holds.0 p) [ inl x ↦ absurd (subst (λ k. Holds k env) (sym (one_truth rel_false w.so_far w.is)) x) | inr x ↦ x ],
       λ s. w.holds.1 (inr s),
     )
+
+-- ---- how many tuples
+-- what is written has few tuples
+pub record IsFew (scope : List Base) (arms : ArmTrees) (r : RelTree) : Type 0 where
+  pub few : tuple_count arms ≤ most_tuples
+  pub is : arms_in scope (truth_form rel_false) arms ≡ truth_form r
+
+few_or_many : (scope : List Base) (arms : ArmTrees) (r : RelTree) (many : Bool) → nat_lt most_tuples (tuple_count arms) ≡ many →
+    (if many then unwritten else arms_in scope (truth_form rel_false) arms) ≡ truth_form r → IsFew scope arms r
+few_or_many scope arms r true e q = absurd (no_truth r q)
+few_or_many scope arms r false e q = record { few = few (tuple_count arms) false (sym e) refl; is = q }
+
+pub is_few : (scope : List Base) (arms : ArmTrees) (r : RelTree) → all_in scope arms ≡ truth_form r → IsFew scope arms r
+is_few scope arms r q = few_or_many scope arms r (nat_lt most_tuples (tuple_count arms)) refl q

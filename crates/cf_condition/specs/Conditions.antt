@@ -1,9 +1,10 @@
 -- The condition of arms.
-use Rattle.std.specs.Prelude.{◌≡◌, ◌↔◌, ℕ, List, [], ◌∷◌, ◌++◌, Option, Some, None, if◌then◌else◌}
+use Rattle.std.specs.Prelude.{◌≡◌, ◌↔◌, ℕ, zero, suc, ◌+◌, nat_lt, pos, List, [], ◌∷◌, ◌++◌, map, Option, Some, None, if◌then◌else◌}
 use Rattle.cf_tree.specs.declared.base.Base.{Base}
 use Rattle.cf_tree.specs.declared.rel.Rel.{Rel}
 use Rattle.cf_tree.specs.CodeTree.{ItemTree, let_item, need_item, ItemTrees, no_items, item_more, ArmTree, arm_of, ArmTrees, no_arms, arm_more}
-use Rattle.cf_tree.specs.RelTree.{RelTree, rel_true, rel_false}
+use Rattle.cf_tree.specs.Meaning.{count_below, tuple_at}
+use Rattle.cf_tree.specs.RelTree.{RelTree, term_lit, rel_true, rel_false}
 use Rattle.cf_tree.specs.RelView.{rel_tree}
 use Rattle.cf_tree.specs.Relation.{Holds, IsLinear, IsTyped}
 use Rattle.cf_tree.specs.Spelled.{AreItemsSpelled}
@@ -47,19 +48,48 @@ abbrev pub items_in : Walk → ItemTrees → Walk
 items_in w no_items = w
 items_in w (item_more i is) = items_in (step_in w i) is
 
--- an arm that searches has no condition: there is no "some" in a relation
-abbrev pub arm_in : List Base → ArmTree → FormTree
-arm_in scope (arm_of [] is gs) = (items_in (record { forms = scope_forms 0 scope; needs = truth_form rel_true }) is).needs
-arm_in scope (arm_of (b ∷ bounds) is gs) = unwritten
+-- where the needs hold, over variables that stand for these forms
+abbrev pub needs_in : List FormTree → ItemTrees → FormTree
+needs_in fs is = (items_in (record { forms = fs; needs = truth_form rel_true }) is).needs
 
--- behind what stands before it
+-- each search value as a literal
+abbrev pub literals : List ℕ → List FormTree
+literals ks = map (λ k. number_form (term_lit (pos k))) ks
+
+-- where the needs of an arm hold at the tuple of that number
+abbrev pub tuple_in : List Base → ArmTree → ℕ → FormTree
+tuple_in scope (arm_of bounds is gs) i = needs_in (scope_forms 0 scope ++ literals (tuple_at bounds i)) is
+
+-- the first n tuples of an arm, each behind what stands before it
+abbrev pub tuples_in : List Base → FormTree → ArmTree → ℕ → FormTree
+tuples_in scope f a zero = f
+tuples_in scope f a (suc n) = paired Or (tuples_in scope f a n) (tuple_in scope a n)
+
+-- how many tuples an arm has; one without searches has one
+abbrev pub arm_count : ArmTree → ℕ
+arm_count (arm_of bounds is gs) = count_below bounds
+
+-- how many the arms have together
+abbrev pub tuple_count : ArmTrees → ℕ
+tuple_count no_arms = 0
+tuple_count (arm_more a arms) = arm_count a + tuple_count arms
+
+-- all tuples of an arm, behind what stands before them: a relation has no word for "some"
+abbrev pub arm_in : List Base → FormTree → ArmTree → FormTree
+arm_in scope f a = tuples_in scope f a (arm_count a)
+
+-- the arms, each behind what stands before it
 abbrev pub arms_in : List Base → FormTree → ArmTrees → FormTree
 arms_in scope f no_arms = f
-arms_in scope f (arm_more a arms) = arms_in scope (paired Or f (arm_in scope a)) arms
+arms_in scope f (arm_more a arms) = arms_in scope (arm_in scope f a) arms
 
--- where the needs of some arm hold
+-- the most tuples of which a condition is written
+unfoldable pub most_tuples : ℕ
+most_tuples = 1000
+
+-- where the needs of some arm hold; nothing is written of more tuples than that
 abbrev pub all_in : List Base → ArmTrees → FormTree
-all_in scope arms = arms_in scope (truth_form rel_false) arms
+all_in scope arms = if nat_lt most_tuples (tuple_count arms) then unwritten else arms_in scope (truth_form rel_false) arms
 
 -- the relation that is written, if one is
 abbrev pub written : FormTree → Option RelTree

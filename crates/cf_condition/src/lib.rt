@@ -5,5 +5,7 @@ mod arms;
 mod codes;
 mod form;
 mod pairing;
+mod tuples;
 
 pub use crate::arms::condition;
+pub use crate::tuples::MOST_TUPLES;

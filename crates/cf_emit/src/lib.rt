@@ -7,5 +7,6 @@ mod preconditions;
 mod printing;
 mod word;
 
+pub use crate::list::put_names;
 pub use crate::preconditions::print_pre;
 pub use crate::printing::print;

@@ -81,7 +81,10 @@ fn put_more_names(out: &mut Vec<u8>, names: &[Text]) -> Result<(), NoMemory>
 }
 
 /// Names with a comma and a space between each two.
-pub(crate) fn put_names(out: &mut Vec<u8>, names: &[Text]) -> Result<(), NoMemory>
+///
+/// # Errors
+/// `NoMemory` where memory ran out.
+pub fn put_names(out: &mut Vec<u8>, names: &[Text]) -> Result<(), NoMemory>
     ensures { OnOk result (out.new.items ≡ out.old.items ++ listed names.now) }
 {
     match names.split_first() {

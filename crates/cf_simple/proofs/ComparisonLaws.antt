@@ -16,7 +16,7 @@ use Rattle.cf_tree.proofs.SetLemmas.{eq_is, eq_same, lt_is, lt_not}
 use Rattle.cf_simple.specs.Lines.{Part, Line, parts_value, line_value, just, plus, times}
 use Rattle.cf_simple.specs.Quotients.{literal, parts_term, common_factor, divides_all, divided_by, turned, begins_negative, nearest, wholes, rests}
 use Rattle.cf_simple.specs.Terms.{line_of}
-use Rattle.cf_simple.specs.Comparisons.{decided, positives, negatives, mirrored, in_order, against, sides, divides_upright, divides_turned, divides_parts, divides_near, divides_line, rest_at_most, rest_at_least, rest_compared, Turn, no_turn, turns_to, is_decided, constant_behind, constant_of, as_rest, turn_quotient, turn_term, or_turn, turn_of, tight_by, tight, after_turn, at_least_tight, at_least}
+use Rattle.cf_simple.specs.Comparisons.{decided, positives, negatives, mirrored, in_order, against, sides, divides_upright, divides_turned, divides_parts, divides_near, divides_line, rest_at_most, rest_at_least, rest_compared, Turn, no_turn, turns_to, is_decided, constant_behind, constant_of, as_rest, turn_quotient, turn_term, or_turn, turn_of, tight_by, tight, after_turn, is_count, are_counts, has_counts, at_least_tight, at_least}
 use Rattle.cf_simple.proofs.LineLaws.{plus_value, times_value, just_value, literal_value, parts_term_value}
 use Rattle.cf_simple.proofs.QuotientLaws.{low, high, once, positive_is, behind_multiple, divided_value, IsCommon, common_is, turned_value, split_value, factor_positive, abs_is, nonneg_times}
 use Rattle.cf_simple.proofs.TermLaws.{line_of_value}
@@ -514,11 +514,46 @@ turn_holds go l no_turn env g h = sides_ge l env
 turn_holds go l (turns_to m) env g h = then_same (g m) h
 turn_holds go l (is_decided r) env g h = h
 
+-- counts are not negative
+count_value : (t : TermTree) (env : List Value) → is_count t ≡ true → pos 0 ≤ℤ val t env
+count_value (term_lit n) env e = absurd (cc)
+count_value (term_var x) env e = absurd (cc)
+count_value (term_card s) env e = omega (arith, ints)
+count_value (term_neg a) env e = absurd (cc)
+count_value (term_add a b) env e = absurd (cc)
+count_value (term_sub a b) env e = absurd (cc)
+count_value (term_mul a b) env e = absurd (cc)
+count_value (term_div a k) env e = absurd (cc)
+count_value (term_mod a k) env e = absurd (cc)
+count_value (term_abs a) env e = absurd (cc)
+
+counts_value : (ps : List Part) (env : List Value) → are_counts ps ≡ true → pos 0 ≤ℤ parts_value ps env
+counts_value [] env e = omega (arith, ints)
+counts_value (p ∷ ps) env e =
+    let h = and_parts (int_lt (pos 0) p.factor && is_count p.of) (are_counts ps) e in
+    let i = and_parts (int_lt (pos 0) p.factor) (is_count p.of) h.0 in
+    let k = lt_is (pos 0) p.factor i.0 in
+    let a = nonneg_times p.factor (val p.of env) (omega (arith, ints, k)) (count_value p.of env i.1) in
+    let b = counts_value ps env h.1 in
+    omega (arith, ints, a, b)
+
+counts_line : (l : Line) (env : List Value) → has_counts l ≡ true → pos 0 ≤ℤ line_value l env
+counts_line l env e =
+    let h = and_parts (int_le (pos 0) l.constant) (are_counts l.parts) e in
+    let a = int_le_is (pos 0) l.constant h.0 in
+    let b = counts_value l.parts env h.1 in
+    omega (arith, ints, a, b)
+
 tight_holds : (go : Line → RelTree) (l : Line) (c : Option ℤ) (env : List Value) → ((m : Line) → Holds (go m) env ↔ (pos 0 ≤ℤ line_value m env)) →
     ((d : ℤ) → c ≡ Some d → line_value l env ≡ d) → Holds (at_least_tight go l c) env ↔ (pos 0 ≤ℤ line_value l env)
-tight_holds go l None env g h =
-    turn_holds go l (turn_of [] l.parts l.constant) env g
-    (subst (λ z. TurnIs (turn_of [] l.parts l.constant) z env) (none_before (parts_value l.parts env) l.constant) (some_turn [] l.parts l.constant env))
+tight_holds go l None env g h = by (has_counts l) refl
+  where
+    by : (b : Bool) → has_counts l ≡ b →
+        Holds (if b then rel_true else after_turn go l (turn_of [] l.parts l.constant)) env ↔ (pos 0 ≤ℤ line_value l env)
+    by true e = (λ p. counts_line l env e, λ p. tt)
+    by false e =
+        turn_holds go l (turn_of [] l.parts l.constant) env g
+        (subst (λ z. TurnIs (turn_of [] l.parts l.constant) z env) (none_before (parts_value l.parts env) l.constant) (some_turn [] l.parts l.constant env))
 tight_holds go l (Some c) env g h = rw (h c refl) (decided_le (pos 0) c env)
 
 pub line_at_least : (n : ℕ) (l : Line) (env : List Value) → Holds (at_least n l) env ↔ (pos 0 ≤ℤ line_value l env)

@@ -6,4 +6,10 @@ pub mod ComparisonLaws
 pub mod BoundLaws
 pub mod JoinedLaws
 pub mod SimpleLaws
+pub mod KeptLines
+pub mod KeptRelations
+pub mod StaysLinear
+pub mod StaysTyped
+pub mod SimplerLaws
+pub mod TurnSteps
 mod SimpleExamples

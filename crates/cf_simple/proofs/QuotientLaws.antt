@@ -62,7 +62,7 @@ common_high g k w q r l a b =
     let i = simp ring at h in
     simp ring (omega (arith, ints, i))
 
-both_positive : (g k : ℤ) → pos 1 ≤ℤ g → pos 1 ≤ℤ k → pos 1 ≤ℤ (g *ℤ k)
+pub both_positive : (g k : ℤ) → pos 1 ≤ℤ g → pos 1 ≤ℤ k → pos 1 ≤ℤ (g *ℤ k)
 both_positive g k l m =
     let h = nonneg_times (g -ℤ pos 1) k (omega (arith, ints)) (omega (arith, ints)) in
     let i = simp ring at h in

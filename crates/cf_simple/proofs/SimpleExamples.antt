@@ -3,7 +3,7 @@ use Rattle.std.proofs.Common.{◌≡◌, ℕ, pos, [], ◌∷◌, List, map, ref
 use Rattle.std.specs.Prelude.{negsuc}
 use Rattle.cf_num.specs.Divisors.{gcd_by}
 use Rattle.cf_tree.specs.declared.base.Order.TheVariants.{Eq, Ne, Lt, Le, Gt, Ge}
-use Rattle.cf_tree.specs.RelTree.{TermTree, term_lit, term_var, term_neg, term_add, term_sub, term_mul, term_div, term_mod, RelTree, rel_true, rel_false, rel_compare, rel_divides, rel_and, rel_or, rel_not}
+use Rattle.cf_tree.specs.RelTree.{set_var, TermTree, term_lit, term_var, term_card, term_neg, term_add, term_sub, term_mul, term_div, term_mod, RelTree, rel_true, rel_false, rel_compare, rel_divides, rel_and, rel_or, rel_not}
 use Rattle.cf_simple.specs.Terms.{line_of}
 use Rattle.cf_simple.specs.Quotients.{line_term}
 use Rattle.cf_simple.specs.Simple.{simple}
@@ -87,6 +87,14 @@ left_out : map simple
     rel_divides (pos 2) a ∷ rel_false ∷ rel_true ∷ rel_divides (pos 2) a ∷ rel_compare Lt a b ∷ rel_not (rel_divides (pos 2) a) ∷ []
 unfolding gcd_by
 left_out = refl
+
+-- how many elements sets have is never negative
+counts : map simple
+    (rel_compare Ge (term_card (set_var 2)) zero ∷ rel_compare Ge (term_add (term_add (times 2 (term_card (set_var 2))) (term_card (set_var 3))) (lit 1)) zero
+    ∷ rel_compare Ge (term_card (set_var 2)) (lit 1) ∷ rel_compare Ge (term_sub (lit 3) (term_card (set_var 2))) zero ∷ []) ≡
+    rel_true ∷ rel_true ∷ rel_compare Ge (term_card (set_var 2)) (lit 1) ∷ rel_compare Le (term_card (set_var 2)) (lit 3) ∷ []
+unfolding gcd_by
+counts = refl
 
 -- a bound behind other parts
 behind_others : simple (rel_and (rel_and (at_least 0) (rel_divides (pos 2) a)) (rel_and (at_most 9) (at_least 4))) ≡

@@ -141,9 +141,22 @@ after_turn go l no_turn = sides Ge l
 after_turn go l (turns_to m) = go m
 after_turn go l (is_decided r) = r
 
+-- a form is how many elements a set has
+abbrev pub is_count : TermTree → Bool
+is_count (term_card s) = true
+is_count t = false
+
+abbrev pub are_counts : List Part → Bool
+are_counts [] = true
+are_counts (p ∷ ps) = int_lt (pos 0) p.factor && is_count p.of && are_counts ps
+
+-- counts that are added, and a constant that is not negative
+abbrev pub has_counts : Line → Bool
+has_counts l = int_le (pos 0) l.constant && are_counts l.parts
+
 abbrev pub at_least_tight : (Line → RelTree) → Line → Option ℤ → RelTree
 at_least_tight go l (Some c) = decided (int_le (pos 0) c)
-at_least_tight go l None = after_turn go l (turn_of [] l.parts l.constant)
+at_least_tight go l None = if has_counts l then rel_true else after_turn go l (turn_of [] l.parts l.constant)
 
 -- a line is at least 0, once so many quotients have gone
 abbrev pub at_least : ℕ → Line → RelTree

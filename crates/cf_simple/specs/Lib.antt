@@ -5,3 +5,6 @@ pub mod Comparisons
 pub mod Bounds
 pub mod Joined
 pub mod Simple
+pub mod LineView
+pub mod Steps
+pub mod Laws

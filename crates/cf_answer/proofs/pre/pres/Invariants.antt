@@ -8,5 +8,5 @@ use Rattle.cf_answer.proofs.pre.pres.Given as goal
 
 abbrev pub invariant-loop-choose : goal.invariant-loop-choose
 invariant-loop-choose l =
-    ((qs : List ChooseTree) → AreSolved qs l.chooses → PresTo (map told_choose l.told) qs l.choose-index (truths_of l.coming.left.now) l.text.items)
+    ((qs : List ChooseTree) → AreSolved qs l.chooses → PresTo l.edition (map told_choose l.told) qs l.choose-index (truths_of l.coming.left.now) l.text.items)
     × (l.coming.told.now ≡ l.told)

@@ -1,0 +1,3 @@
+mod SpellingLaws
+mod ConditionLemmas
+mod HalvesLaws

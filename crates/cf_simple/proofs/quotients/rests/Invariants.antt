@@ -1,0 +1,10 @@
+use Rattle.std.proofs.Common.{◌≡◌, ◌++◌, length, map}
+use Rattle.cf_simple.specs.Quotients.{rests}
+use Rattle.cf_simple.specs.LineView.{part_tree}
+use Rattle.cf_simple.proofs.quotients.rests.Given as goal
+
+abbrev pub invariant-loop-part : goal.invariant-loop-part
+invariant-loop-part l = map part_tree l.all.items ++ rests l.k (map part_tree l.rest) ≡ rests l.k (map part_tree l.parts)
+
+abbrev pub decreases-loop-part : goal.decreases-loop-part
+decreases-loop-part l = length l.rest
