@@ -1,0 +1,15 @@
+pub mod Wanted
+pub mod Distinct
+pub mod Sums
+pub mod RowTexts
+pub mod SideView
+pub mod Certain
+pub mod Filled
+pub mod LineView
+pub mod Rows
+pub mod Steps
+pub mod Names
+pub mod Told
+pub mod Cases
+pub mod Chooses
+pub mod ColumnView
